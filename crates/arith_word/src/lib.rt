@@ -1,0 +1,15 @@
+//! Words of 1 to 64 bits with the operations of the `arith` dialect, and the small types that all
+//! crates share: labels, and lists and texts that contracts see as their contents.
+#![tactic(auto)]
+
+mod label;
+mod list;
+mod text;
+mod width;
+mod word;
+
+pub use label::Label;
+pub use list::List;
+pub use text::Text;
+pub use width::Width;
+pub use word::{Word, add, mul, neg, signed, sub};
