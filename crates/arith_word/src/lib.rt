@@ -4,12 +4,14 @@
 
 mod label;
 mod list;
+mod op;
 mod text;
 mod width;
 mod word;
 
 pub use label::Label;
 pub use list::List;
+pub use op::{BinOp, CastOp, Pred, Step};
 pub use text::Text;
 pub use width::Width;
 pub use word::{Word, add, mul, neg, signed, sub};
