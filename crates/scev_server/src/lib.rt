@@ -1,0 +1,12 @@
+//! The server's top call, and the sources and sinks that it reads and writes.
+#![tactic(auto)]
+
+mod memory;
+mod outside;
+mod standard;
+mod whole;
+
+pub use memory::{MemSink, MemSource};
+pub use outside::{Failed, Gate, OpenGate, Sink, Source};
+pub use standard::{StdSink, StdSource};
+pub use whole::{ReadEnd, read_all, write_all};
