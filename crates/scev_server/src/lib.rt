@@ -1,11 +1,13 @@
 //! The server's top call, and the sources and sinks that it reads and writes.
 #![tactic(auto)]
 
+mod input;
 mod memory;
 mod outside;
 mod standard;
 mod whole;
 
+pub use input::{Command, Input, Script, ValueName};
 pub use memory::{MemSink, MemSource};
 pub use outside::{Failed, Gate, OpenGate, Sink, Source};
 pub use standard::{StdSink, StdSource};
