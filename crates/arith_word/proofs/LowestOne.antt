@@ -1,9 +1,8 @@
 -- The power of 2 in a number, from its lowest 1.
-use Rattle.std.proofs.Common.{◌≡◌, ℕ, zero, suc, ◌+◌, ◌-◌, ◌*◌, ◌%◌, ◌/◌, ◌^◌, ◌<◌, ◌≤◌, ◌∙◌, inl, inr, ap, sym, subst, arith}
-use Rattle.std.proofs.lemmas.Nat.{pow_pos, div-add-mod', mod_below, mod-pow-add}
+use Rattle.std.proofs.Common.{◌≡◌, ℕ, ◌+◌, ◌*◌, ◌%◌, ◌/◌, ◌^◌, ◌<◌, ◌∙◌, inl, inr, ap, sym, arith}
+use Rattle.std.proofs.lemmas.Nat.{pow_pos, div-add-mod', mod_below}
 use Rattle.std.proofs.lemmas.Nat.Bits.{bit_at-trailing_zeros, same_from_bits_below, bit_at_cat_low, bit_at-zero}
 use Rattle.std.proofs.lemmas.Bool.{cases_lt}
-use Rattle.std.proofs.Math.Nat.{zero-mod}
 use Rattle.std.specs.Int.{bit_at, trailing_zeros, w64}
 use Rattle.arith_word.specs.Inverse.{IsGreatestTwo}
 

@@ -80,34 +80,12 @@ fn traps(w: Width, x: u64, y: u64) -> bool
     y == 0 || (x == 1u64 << (w.bits() - 1) && y == w.mask())
 }
 
-/// The signed quotient, rounded toward 0.
-fn divide_signed(w: Width, x: u64, y: u64) -> Step
-    requires left { x < 2 ^ w }
-    requires right { y < 2 ^ w }
-    ensures { IsStep result w (value_of BinOp.Divsi w x y) }
+/// The step that gives this word.
+fn value(w: Width, v: u64) -> Step
+    requires { v < 2 ^ w }
+    ensures { IsStep result w (Some v) }
 {
-    if traps(w, x, y) {
-        return Step::Trap;
-    }
-    Step::Value(Word {
-        w,
-        v: unsigned(w, reading(w, x) / reading(w, y)),
-    })
-}
-
-/// The signed remainder, with the sign of the dividend.
-fn remainder_signed(w: Width, x: u64, y: u64) -> Step
-    requires left { x < 2 ^ w }
-    requires right { y < 2 ^ w }
-    ensures { IsStep result w (value_of BinOp.Remsi w x y) }
-{
-    if traps(w, x, y) {
-        return Step::Trap;
-    }
-    Step::Value(Word {
-        w,
-        v: unsigned(w, reading(w, x) % reading(w, y)),
-    })
+    Step::Value(Word { w, v })
 }
 
 /// The operation on two words of one width.
@@ -120,39 +98,25 @@ pub fn apply(op: BinOp, a: Word, b: Word) -> Step
 {
     let (w, x, y) = (a.w, a.v, b.v);
     match op {
-        BinOp::Addi => Step::Value(Word { w, v: add(w, x, y) }),
-        BinOp::Subi => Step::Value(Word { w, v: sub(w, x, y) }),
-        BinOp::Muli => Step::Value(Word { w, v: mul(w, x, y) }),
-        BinOp::Andi => Step::Value(Word { w, v: x & y }),
-        BinOp::Ori => Step::Value(Word { w, v: x | y }),
-        BinOp::Xori => Step::Value(Word { w, v: x ^ y }),
-        BinOp::Minsi => Step::Value(Word {
-            w,
-            v: lesser(w, x, y),
-        }),
-        BinOp::Maxsi => Step::Value(Word {
-            w,
-            v: greater(w, x, y),
-        }),
-        BinOp::Minui => Step::Value(Word { w, v: x.min(y) }),
-        BinOp::Maxui => Step::Value(Word { w, v: x.max(y) }),
-        BinOp::Shli => Step::Value(Word {
-            w,
-            v: shift_left(w, x, y),
-        }),
-        BinOp::Shrui => Step::Value(Word {
-            w,
-            v: shift_right(w, x, y),
-        }),
-        BinOp::Shrsi => Step::Value(Word {
-            w,
-            v: shift_right_signed(w, x, y),
-        }),
+        BinOp::Addi => value(w, add(w, x, y)),
+        BinOp::Subi => value(w, sub(w, x, y)),
+        BinOp::Muli => value(w, mul(w, x, y)),
+        BinOp::Andi => value(w, x & y),
+        BinOp::Ori => value(w, x | y),
+        BinOp::Xori => value(w, x ^ y),
+        BinOp::Minsi => value(w, lesser(w, x, y)),
+        BinOp::Maxsi => value(w, greater(w, x, y)),
+        BinOp::Minui => value(w, x.min(y)),
+        BinOp::Maxui => value(w, x.max(y)),
+        BinOp::Shli => value(w, shift_left(w, x, y)),
+        BinOp::Shrui => value(w, shift_right(w, x, y)),
+        BinOp::Shrsi => value(w, shift_right_signed(w, x, y)),
         BinOp::Divui | BinOp::Remui if y == 0 => Step::Trap,
-        BinOp::Divui => Step::Value(Word { w, v: x / y }),
-        BinOp::Remui => Step::Value(Word { w, v: x % y }),
-        BinOp::Divsi => divide_signed(w, x, y),
-        BinOp::Remsi => remainder_signed(w, x, y),
+        BinOp::Divui => value(w, x / y),
+        BinOp::Remui => value(w, x % y),
+        BinOp::Divsi | BinOp::Remsi if traps(w, x, y) => Step::Trap,
+        BinOp::Divsi => value(w, unsigned(w, reading(w, x) / reading(w, y))),
+        BinOp::Remsi => value(w, unsigned(w, reading(w, x) % reading(w, y))),
     }
 }
 

@@ -1,4 +1,4 @@
-use Rattle.std.proofs.Common.{arith, ◌≡◌, ◌-◌, ◌∙◌, ◌^◌, ◌≤◌, ◌%◌, ◌*◌, ap}
+use Rattle.std.proofs.Common.{arith, ◌-◌, ◌^◌, ap}
 use Rattle.std.proofs.lemmas.Nat.{one_shl}
 use Rattle.arith_word.proofs.Signs.{shifted_down_is}
 use Rattle.arith_word.proofs.operation.shift_right_signed.Goals as goal
