@@ -1,3 +1,5 @@
 pub mod Bytes
 pub mod Faults
 pub mod Memory
+pub mod Reply
+pub mod Serving
