@@ -1,7 +1,7 @@
 -- Bytes that are given or put in two steps.
-use Rattle.std.proofs.Common.{◌≡◌, ℕ, ◌+◌, List, [], ◌++◌, Option, Some, None, take, drop, refl, ap, sym, append_assoc, ◌∙◌, length, subst}
-use Rattle.std.proofs.lemmas.List.{append-nil, take-append-drop, drop-drop}
-use Rattle.std.proofs.Math.Seq.{take-add, take-append_seam}
+use Rattle.std.proofs.Common.{◌≡◌, ℕ, ◌+◌, List, [], ◌++◌, Option, Some, None, take, drop, refl, ap, sym, append_assoc, ◌∙◌}
+use Rattle.std.proofs.lemmas.List.{append-nil}
+use Rattle.std.proofs.Math.Seq.{take-add}
 use Rattle.scev_server.specs.Bytes.{before_giving, after_putting}
 
 -- giving twice is giving both

@@ -1,6 +1,7 @@
 //! The server's top call, and the sources and sinks that it reads and writes.
 #![tactic(auto)]
 
+mod input;
 mod memory;
 mod outside;
 mod reply;
@@ -9,6 +10,7 @@ mod status;
 mod top;
 mod whole;
 
+pub use input::{Command, Input, Script, ValueName};
 pub use memory::{MemSink, MemSource};
 pub use outside::{Failed, Gate, OpenGate, Sink, Source};
 pub use standard::{StdSink, StdSource};

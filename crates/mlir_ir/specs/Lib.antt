@@ -1,0 +1,5 @@
+pub mod Names
+pub mod Labels
+pub mod Values
+pub mod Words
+pub mod Canonical

@@ -1,0 +1,11 @@
+//! Modules of the `func`, `arith` and `scf` dialects: their types, the labels of their values, and
+//! the definitions of their canonical text and of a well-formed function.
+#![tactic(auto)]
+
+mod module;
+mod types;
+
+pub use module::Module;
+pub use types::{
+    Arg, Body, Flags, ForParts, Func, IrType, Item, Kind, Op, Pack, Region, WhileParts,
+};
