@@ -81,3 +81,139 @@ pub fn serve<R: Threads, S: Source, K: Sink, G: Gate + Sync>(
         }
     }
 }
+
+#[cfg(test)]
+mod tests {
+    use super::*;
+    use crate::memory::{MemSink, MemSource};
+    use crate::outside::OpenGate;
+    use std::alloc::AllocError;
+    use std::process::Abort;
+    use std::test::Fail;
+
+    const LINES: &[u8] = b"== log\n== equal\n";
+
+    const REFUSAL: &[u8] = b"bad input: not here at 0\n";
+
+    /// What a call is given: words, bytes, and how the source and the sink behave.
+    #[derive(Drop)]
+    struct Case<'a> {
+        words: Vec<String>,
+        bytes: Vec<u8>,
+        read_faults: &'a [u32],
+        room: u32,
+        write_faults: &'a [u32],
+        piece: u32,
+    }
+
+    /// Ample room and no faults.
+    fn ample<'a>(alloc: Global, bytes: Vec<u8>) -> Case<'a> {
+        Case {
+            words: Vec::new(alloc),
+            bytes,
+            read_faults: &[],
+            room: 4096,
+            write_faults: &[],
+            piece: 4096,
+        }
+    }
+
+    /// How a call ended.
+    #[derive(Drop)]
+    struct Ended {
+        status: Status,
+        src: MemSource,
+        out: MemSink,
+    }
+
+    fn run(rt: &impl Threads, alloc: Global, case: Case<'_>) -> Result<Ended, AllocError> {
+        let failing = Vec::from_slice(alloc, case.read_faults)?;
+        let mut src = MemSource::new(case.bytes, failing);
+        let failing = Vec::from_slice(alloc, case.write_faults)?;
+        let mut out = MemSink::new(alloc, case.room, failing, case.piece)?;
+        let status = serve(
+            rt,
+            alloc,
+            case.words.as_slice(),
+            &mut src,
+            &mut out,
+            &OpenGate,
+        );
+        Ok(Ended { status, src, out })
+    }
+
+    fn expect(rt: &impl Abort, ended: &Ended, status: Status, written: &[u8], faults: (u64, u64)) {
+        assert_eq!(rt; ended.status, status);
+        assert_eq!(rt; ended.out.written(), written);
+        assert_eq!(rt; (ended.src.fault_count(), ended.out.fault_count()), faults);
+    }
+
+    #[test]
+    fn answers_with_ample_memory(rt: HostRuntime) -> Result<(), Fail> {
+        let alloc = rt.alloc();
+        let ended = run(&rt, alloc, ample(alloc, Vec::new(alloc)))?;
+        expect(&rt, &ended, Status::Done, LINES, (0, 0));
+        let ended = run(&rt, alloc, ample(alloc, b"?".to_vec(alloc)?))?;
+        expect(&rt, &ended, Status::BadInput, REFUSAL, (0, 0));
+        Ok(())
+    }
+
+    #[test]
+    fn reads_nothing_where_words_are_given(rt: HostRuntime) -> Result<(), Fail> {
+        let alloc = rt.alloc();
+        let mut case = ample(alloc, b"abc".to_vec(alloc)?);
+        case.words.push("--stats".to_string(alloc)?)?;
+        let ended = run(&rt, alloc, case)?;
+        expect(&rt, &ended, Status::BadWords, b"", (0, 0));
+        assert_eq!(rt; ended.src.rest(), b"abc".as_slice());
+        Ok(())
+    }
+
+    #[test]
+    fn stops_at_a_read_fault(rt: HostRuntime) -> Result<(), Fail> {
+        let alloc = rt.alloc();
+        let mut case = ample(alloc, vec![in alloc; b' '; 10_000]?);
+        case.read_faults = &[2];
+        let ended = run(&rt, alloc, case)?;
+        expect(&rt, &ended, Status::ReadFault, b"", (1, 0));
+        Ok(())
+    }
+
+    #[test]
+    fn stops_at_a_write_fault(rt: HostRuntime) -> Result<(), Fail> {
+        let alloc = rt.alloc();
+        let mut full = ample(alloc, Vec::new(alloc));
+        full.room = 0;
+        let ended = run(&rt, alloc, full)?;
+        expect(&rt, &ended, Status::WriteFault, b"", (0, 1));
+        let mut failing = ample(alloc, Vec::new(alloc));
+        failing.write_faults = &[2];
+        failing.piece = 3;
+        let ended = run(&rt, alloc, failing)?;
+        expect(&rt, &ended, Status::WriteFault, b"== log", (0, 1));
+        Ok(())
+    }
+
+    #[test]
+    fn writes_byte_by_byte(rt: HostRuntime) -> Result<(), Fail> {
+        let alloc = rt.alloc();
+        let mut case = ample(alloc, Vec::new(alloc));
+        case.piece = 1;
+        let ended = run(&rt, alloc, case)?;
+        expect(&rt, &ended, Status::Done, LINES, (0, 0));
+        Ok(())
+    }
+
+    #[test]
+    fn stops_behind_the_limit(rt: HostRuntime) -> Result<(), Fail> {
+        let alloc = rt.alloc();
+        for (length, status, written) in [
+            (4_194_304, Status::BadInput, REFUSAL),
+            (4_194_305, Status::TooLong, b"".as_slice()),
+        ] {
+            let ended = run(&rt, alloc, ample(alloc, vec![in alloc; b' '; length]?))?;
+            expect(&rt, &ended, status, written, (0, 0));
+        }
+        Ok(())
+    }
+}
