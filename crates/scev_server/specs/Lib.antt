@@ -1,4 +1,6 @@
 pub mod Bytes
 pub mod Faults
-pub mod Memory
 pub mod Input
+pub mod Memory
+pub mod Reply
+pub mod Serving
