@@ -1,8 +1,10 @@
 //! The server's top call, and the sources and sinks that it reads and writes.
 #![tactic(auto)]
 
+mod expression;
 mod input;
 mod memory;
+mod names;
 mod outside;
 mod standard;
 mod whole;
