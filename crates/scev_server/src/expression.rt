@@ -1,6 +1,6 @@
 ghost use Rattle.std.specs.Prelude.{◌≡◌, ◌^◌, ◌<◌, ◌++◌, OnOk, string_bytes, All};
 ghost use Rattle.mlir_ir.specs.Values.{func_values};
-ghost use Rattle.scev_server.specs.Expressions.{reading_text, symbol_text, term_text, plus_text, expr_text};
+ghost use Rattle.scev_server.specs.Expressions.{reading_text, symbol_text, term_text, plus_text, sum_text, expr_text};
 ghost use Rattle.scev_server.specs.Plain.{IsPlainFunc};
 
 use crate::names::value_name;
@@ -58,4 +58,33 @@ fn push_more(out: &mut String, func: &Func, w: Width, terms: &[Term]) -> Result<
         push_term(out, func, w, *term)?;
     }
     Ok(())
+}
+
+/// Adds the terms behind a number, which is written where it isn't 0 or stands alone.
+fn push_sum(out: &mut String, func: &Func, w: Width, number: u64, terms: &[Term]) -> Result<(), AllocError>
+    requires plain { IsPlainFunc func.now }
+    requires number { number < 2 ^ w }
+    requires below { All (λ term. term.factor < 2 ^ w) terms.now }
+    ensures { OnOk result (string_bytes out.new ≡ string_bytes out.old ++ sum_text (func_values func.now) w number terms.now) }
+{
+    match terms.split_first() {
+        None => push_reading(out, w, number),
+        Some((first, more)) => {
+            if number != 0 {
+                push_reading(out, w, number)?;
+                write!(out, " + ")?;
+            }
+            push_term(out, func, w, *first)?;
+            push_more(out, func, w, more)
+        }
+    }
+}
+
+/// Adds the text of an expression of a value of the function.
+#[tactic(auto, using(crate::proofs::Factors::factors_below))]
+pub fn push_expr(out: &mut String, func: &Func, e: &Expr) -> Result<(), AllocError>
+    requires { IsPlainFunc func.now }
+    ensures { OnOk result (string_bytes out.new ≡ string_bytes out.old ++ expr_text (func_values func.now) e.now) }
+{
+    push_sum(out, func, e.w, e.number, e.terms.as_slice())
 }

@@ -7,6 +7,7 @@ mod memory;
 mod names;
 mod outside;
 mod reply;
+mod session;
 mod standard;
 mod status;
 mod top;
