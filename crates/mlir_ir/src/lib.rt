@@ -3,9 +3,11 @@
 #![tactic(auto)]
 
 mod module;
+mod shape;
 mod types;
 
 pub use module::Module;
+pub use shape::{Shape, ShapeFault};
 pub use types::{
     Arg, Body, Flags, ForParts, Func, IrType, Item, Kind, Op, Pack, Region, WhileParts,
 };
