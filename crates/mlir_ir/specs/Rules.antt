@@ -18,27 +18,12 @@ use Rattle.mlir_ir.specs.declared.types.Region.{Region, Region'}
 use Rattle.mlir_ir.specs.declared.types.Kind.{Kind, Const, Bin, Cast, Cmp, Select, Call, If', For, While, Held-Kind-If-2, None', Some'}
 use Rattle.mlir_ir.specs.declared.types.ForParts.{ForParts, ForParts'}
 use Rattle.mlir_ir.specs.declared.types.WhileParts.{WhileParts, WhileParts'}
+use Rattle.mlir_ir.specs.declared.rules.Nest.{Nest}
+use Rattle.mlir_ir.specs.declared.rules.Position.{Position}
+use Rattle.mlir_ir.specs.declared.rules.Rules.{Rules}
 use Rattle.mlir_ir.specs.Names.{is_name, name_limit}
 use Rattle.mlir_ir.specs.Values.{Value, type_at}
 use Rattle.mlir_ir.specs.Words.{bits_of}
-
--- whether a place keeps its four rules: what it uses is in scope, its types and names fit, its lists agree in length, its limits hold
-pub record Rules : Type 0 where
-  pub in_scope : Bool
-  pub typed : Bool
-  pub counted : Bool
-  pub sized : Bool
-
--- what is known where a place begins: the values in scope, the next label and the last one given, the operations
--- before, the open regions and loops, and whether the item keeps its limits
-pub record Place : Type 0 where
-  pub scope : List Value
-  pub next : ℕ
-  pub last : ℕ
-  pub ops : ℕ
-  pub regions : ℕ
-  pub loops : ℕ
-  pub item_fits : Bool
 
 -- the limits: of arguments and results, operations, items, labels of an item, open regions, loops in loops
 abbrev pub list_limit : ℕ
@@ -231,12 +216,13 @@ is_kind_sized regions loops (For parts) = nat_lt regions region_limit && nat_lt 
 is_kind_sized regions loops (While parts) = nat_lt regions region_limit && nat_lt loops loop_limit
 is_kind_sized regions loops _ = true
 
-abbrev pub op_rules : Place → List Pack → List IrType → Kind → Rules
-op_rules p packs results kind = record {
-  in_scope = are_in_scope p.scope (operands kind);
-  typed = are_free p.scope [] packs && is_kind_typed p.scope results kind;
-  counted = packs_hold packs (length results) && is_kind_counted (length results) kind;
-  sized = list_all (λ pack. is_short pack.name) packs && nat_le (length results) list_limit && nat_lt p.ops op_limit && p.item_fits && is_kind_sized p.regions p.loops kind;
+abbrev pub op_rules : List Value → Nest → Position → List Pack → List IrType → Kind → Rules
+op_rules scope nest at packs results kind = record {
+    in_scope = are_in_scope scope (operands kind);
+    typed = are_free scope [] packs && is_kind_typed scope results kind;
+    counted = packs_hold packs (length results) && is_kind_counted (length results) kind;
+    sized =
+        list_all (λ pack. is_short pack.name) packs && nat_le (length results) list_limit && nat_lt at.ops op_limit && nest.item_fits && is_kind_sized nest.regions nest.loops kind
 }
 
 -- arguments: number n of its list; a type that it has to have; in a declaration a name may be missing

@@ -3,6 +3,7 @@
 #![tactic(auto)]
 
 mod module;
+mod rules;
 mod shape;
 mod types;
 
