@@ -2,6 +2,7 @@
 //! the definitions of their canonical text and of a well-formed function.
 #![tactic(auto)]
 
+mod count;
 mod module;
 mod rules;
 mod shape;
