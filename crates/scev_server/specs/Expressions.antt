@@ -5,7 +5,7 @@ use Rattle.std.specs.Fmt.{decimal, signed_decimal}
 use Rattle.std.specs.Str.{bytes_eq}
 use Rattle.arith_word.specs.Word.{signed_reading}
 use Rattle.mlir_ir.specs.Values.{Value, value_at}
-use Rattle.fresh_scev.specs.declared.expr.Expr.{Expr}
+use Rattle.fresh_scev.specs.Linear.{Linear}
 use Rattle.fresh_scev.specs.declared.expr.Term.{Term}
 
 -- the signed reading of a number; at one bit 0 or 1
@@ -41,5 +41,5 @@ abbrev pub sum_text : List Value → ℕ → ℕ → List Term → List ℕ
 sum_text values w number [] = reading_text w number
 sum_text values w number (term ∷ terms) = (if number == 0 then [] else reading_text w number ++ codes " + ") ++ term_text values w term ++ plus_text values w terms
 
-abbrev pub expr_text : List Value → Expr → List ℕ
+abbrev pub expr_text : List Value → Linear → List ℕ
 expr_text values e = sum_text values e.w e.number e.terms

@@ -86,5 +86,5 @@ pub fn push_expr(out: &mut String, func: &Func, e: &Expr) -> Result<(), AllocErr
     requires { IsPlainFunc func.now }
     ensures { OnOk result (string_bytes out.new ≡ string_bytes out.old ++ expr_text (func_values func.now) e.now) }
 {
-    push_sum(out, func, e.w, e.number, e.terms.as_slice())
+    push_sum(out, func, e.width(), e.constant(), e.terms())
 }
