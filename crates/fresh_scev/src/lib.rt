@@ -2,7 +2,11 @@
 //! ScalarEvolution.
 #![tactic(auto)]
 
+mod analysis;
 mod expr;
+mod facts;
 mod terms;
 
-pub use expr::Term;
+pub use expr::{Expr, Term, add_exprs, mul_exprs, sub_exprs};
+pub use analysis::analyse;
+pub use facts::Facts;
