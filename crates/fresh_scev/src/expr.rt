@@ -1,5 +1,5 @@
 ghost use Rattle.std.specs.Prelude.{◌≡◌, ◌<◌, ◌^◌, IfOk};
-ghost use Rattle.fresh_scev.specs.Linear.{number_expr, symbol_expr, sum, difference, multiple, product};
+ghost use Rattle.fresh_scev.specs.Linear.{IsCanonical, number_expr, symbol_expr, sum, difference, multiple, product};
 
 use crate::terms::{difference_terms, multiple_terms, sum_terms};
 use arith_word::{Label, List, Width, add, mul, sub};
@@ -59,6 +59,29 @@ impl Expr {
             number: 0,
             terms: List::from_vec(terms),
         })
+    }
+
+    /// The width of the value in bits.
+    pub fn width(&self) -> Width
+        ensures { result ≡ self.now.w }
+    {
+        self.w
+    }
+
+    /// The number that is added to the terms.
+    pub fn constant(&self) -> u64
+        ensures value { result ≡ self.now.number }
+        ensures below { result < 2 ^ self.now.w }
+    {
+        self.number
+    }
+
+    /// The numbers times symbols, in the order of the symbols.
+    pub fn terms(&self) -> &[Term]
+        ensures value { result.now ≡ self.now.terms }
+        ensures canonical { IsCanonical self.now.w self.now.terms }
+    {
+        self.terms.as_slice()
     }
 
     /// `c` times the expression.

@@ -7,6 +7,8 @@ use Rattle.mlir_ir.specs.declared.types.IrType.{IrType}
 use Rattle.mlir_ir.specs.declared.types.Item.{Item}
 use Rattle.mlir_ir.specs.declared.types.Op.{Op}
 use Rattle.mlir_ir.specs.declared.types.Pack.{Pack}
+use Rattle.fresh_scev.specs.Straight.{IsStraightLine}
+use Rattle.mlir_ir.specs.Check.{IsWellFormed}
 use Rattle.mlir_ir.specs.Values.{Value, func_values}
 use Rattle.scev_server.specs.Input.{IsSmallKind}
 
@@ -39,3 +41,9 @@ pub record IsPlainFunc (f : Func) : Type 0 where
 -- the name of the first result of the first operation
 abbrev pub item_name : Item → List ℕ
 item_name item = option_map_or (λ op. option_map_or (λ pack. pack.name) (slice_get op.packs 0) []) (slice_get item.ops 0) []
+
+-- what the answers on a function need of it
+pub record IsAnalysable (f : Func) : Type 0 where
+  pub plain : IsPlainFunc f
+  pub well_formed : IsWellFormed f
+  pub straight_line : IsStraightLine f

@@ -5,30 +5,32 @@ ghost use Rattle.mlir_ir.specs.Values.{func_values};
 ghost use Rattle.scev_server.specs.Expressions.{expr_text};
 ghost use Rattle.scev_server.specs.Input.{IsCommand, IsScript};
 ghost use Rattle.scev_server.specs.Output.{Answers, IsWalk, AreParts, Output};
-ghost use Rattle.scev_server.specs.Plain.{IsPlainFunc};
+ghost use Rattle.scev_server.specs.Plain.{IsAnalysable};
 
 use crate::expression::push_expr;
 use crate::input::{Command, Input, Script};
 use crate::names::value_label;
 use crate::outside::Gate;
 use arith_word::Label;
+use fresh_scev::analyse;
 use mlir_ir::Func;
 use std::alloc::{AllocError, Global};
 
 /// Adds the expression of the value with that label.
 fn push_scev(out: &mut String, alloc: Global, func: &Func, label: Label) -> Result<(), AllocError>
-    requires { IsPlainFunc func.now }
+    requires { IsAnalysable func.now }
     ensures { OnOk result (string_bytes out.new ≡ string_bytes out.old ++ option_map_or (expr_text (func_values func.now)) (fresh func.now label.0) []) }
 {
-    let _ = alloc;
-    let _ = label;
-    let _ = func;
-    write!(out, "")
+    let facts = analyse(alloc, func)?;
+    match facts.expr(label) {
+        Some(e) => push_expr(out, func, e),
+        None => Ok(()),
+    }
 }
 
 /// Adds the line that answers a command.
 fn push_answer(out: &mut String, alloc: Global, func: &Func, command: &Command) -> Result<(), AllocError>
-    requires plain { IsPlainFunc func.now }
+    requires func { IsAnalysable func.now }
     requires named { IsCommand command.now }
     ensures { OnOk result ((line : List ℕ) × Answers func.now command.now line × (string_bytes out.new ≡ string_bytes out.old ++ line)) }
 {
@@ -56,7 +58,7 @@ fn push_walk<G: Gate>(
     session: u32,
     gate: &G,
 ) -> Result<(), AllocError>
-    requires plain { IsPlainFunc func.now }
+    requires func { IsAnalysable func.now }
     requires script { IsScript script.now }
     ensures { OnOk result ((lines : List ℕ) × IsWalk func.now script.now.commands lines × (string_bytes out.new ≡ string_bytes out.old ++ lines)) }
 {
@@ -77,7 +79,7 @@ fn push_parts<G: Gate>(
     sessions: &[Script],
     gate: &G,
 ) -> Result<(), AllocError>
-    requires plain { IsPlainFunc func.now }
+    requires func { IsAnalysable func.now }
     requires few { length sessions.now ≤ 1 }
     requires scripts { All IsScript sessions.now }
     ensures { OnOk result ((parts : List ℕ) × AreParts func.now sessions.now parts × (string_bytes out.new ≡ string_bytes out.old ++ parts)) }
@@ -92,7 +94,7 @@ fn push_parts<G: Gate>(
 
 /// The output of an input.
 pub fn output_text<G: Gate>(alloc: Global, input: &Input, gate: &G) -> Result<String, AllocError>
-    requires plain { IsPlainFunc input.now.func }
+    requires func { IsAnalysable input.now.func }
     requires few { length input.now.sessions ≤ 1 }
     requires scripts { All IsScript input.now.sessions }
     ensures { IfOk result (λ text. Output input.now (string_bytes text)) }
