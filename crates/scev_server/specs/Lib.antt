@@ -1,6 +1,9 @@
 pub mod Bytes
 pub mod Faults
 pub mod Input
+pub mod Expressions
+pub mod Output
+pub mod Plain
 pub mod Memory
 pub mod Reply
 pub mod Serving

@@ -1,10 +1,13 @@
 //! The server's top call, and the sources and sinks that it reads and writes.
 #![tactic(auto)]
 
+mod expression;
 mod input;
 mod memory;
+mod names;
 mod outside;
 mod reply;
+mod session;
 mod standard;
 mod status;
 mod top;

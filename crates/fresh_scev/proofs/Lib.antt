@@ -1,0 +1,5 @@
+pub mod Factors
+pub mod Merge
+pub mod Numbers
+pub mod Walks
+pub mod Limits

@@ -1,0 +1,3 @@
+pub mod Linear
+pub mod Fresh
+pub mod Straight
