@@ -51,7 +51,7 @@ pub fn serve<R: Threads, S: Source, K: Sink, G: Gate + Sync>(
     ensures within { result ≢ Status.TooLong → result ≢ Status.NoMemory → (read : List ℕ) × (length read ≤ input_limit)
         × (S.left src.old ≡ before_giving read (S.left src.new)) }
     // Where the source tells its bytes, no words are given and no fault comes, the bytes decide.
-    ensures complete { 0 ≡ length words.now → ¬ Rose (S.faults src.old) (S.faults src.new) → ¬ Rose (K.faults out.old) (K.faults out.new)
+    ensures complete { length words.now ≡ 0 → ¬ Rose (S.faults src.old) (S.faults src.new) → ¬ Rose (K.faults out.old) (K.faults out.new)
         → IfSome (S.left src.old) (λ bytes. CallsFor bytes result) }
     ensures read_count { S.faults src.old ≤ S.faults src.new }
     ensures write_count { K.faults out.old ≤ K.faults out.new }
