@@ -69,7 +69,7 @@ from_own w first (suc count) last (t ∷ ts) e h k =
         rw (factor_of-here first t ts same h.3, term_of-some first t same h.1, next, rest) refl
     ]
 
-all_within : (w : ℕ) (ts : List Term) → IsCanonical w ts → AreWithin 0 (2 ^ 32) ts
+pub all_within : (w : ℕ) (ts : List Term) → IsCanonical w ts → AreWithin 0 (2 ^ 32) ts
 all_within w [] h = tt
 all_within w (t ∷ ts) h = ((omega arith, h.0), all_within w ts h.4)
 

@@ -3,3 +3,4 @@ pub mod Merge
 pub mod Numbers
 pub mod Walks
 pub mod Limits
+pub mod Totals

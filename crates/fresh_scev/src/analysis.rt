@@ -1,13 +1,14 @@
-ghost use Rattle.std.specs.Prelude.{◌≡◌, ◌+◌, ◌<◌, ◌≤◌, ◌^◌, IfOk, OnOk, [], length};
+ghost use Rattle.std.specs.Prelude.{◌≡◌, ◌+◌, ◌<◌, ◌≤◌, ◌^◌, IfOk, IsTrue, OnOk, [], length};
 ghost use Rattle.std.specs.Option.{option_copied};
 ghost use Rattle.mlir_ir.specs.Labels.{ops_labels, label_at};
 ghost use Rattle.mlir_ir.specs.Words.{bits_of};
 ghost use Rattle.fresh_scev.specs.Fresh.{expr_at, with_item} ;
 ghost use Rattle.fresh_scev.specs.Fresh as fresh;
-ghost use Rattle.fresh_scev.specs.Straight.{HaveLabels, IsStraightLine};
+ghost use Rattle.fresh_scev.specs.Straight.{HaveLabels, is_straight_line};
 ghost use Rattle.mlir_ir.specs.Check.{IsWellFormed};
 
-use crate::expr::{Expr, add_exprs, mul_exprs, sub_exprs};
+use crate::algebra::{add, mul, sub};
+use crate::expr::Expr;
 use crate::facts::Facts;
 use arith_word::{BinOp, Label, Width};
 use mlir_ir::{Arg, Func, IrType, Item, Kind, Op};
@@ -45,9 +46,9 @@ fn op_expr(alloc: Global, op: BinOp, own: Expr, a: &Expr, b: &Expr) -> Result<Ex
     ensures { IfOk result (λ e. e ≡ fresh.op_expr op own a.now b.now) }
 {
     match op {
-        BinOp::Addi => add_exprs(alloc, a, b),
-        BinOp::Subi => sub_exprs(alloc, a, b),
-        BinOp::Muli => match mul_exprs(alloc, a, b)? {
+        BinOp::Addi => add(alloc, a, b),
+        BinOp::Subi => sub(alloc, a, b),
+        BinOp::Muli => match mul(alloc, a, b)? {
             Some(product) => Ok(product),
             None => Ok(own),
         },
@@ -136,7 +137,7 @@ fn push_items(alloc: Global, facts: &mut Facts, items: &[Item]) -> Result<(), Al
 #[tactic(auto, using(crate::proofs::Limits::limits))]
 pub fn analyse(alloc: Global, f: &Func) -> Result<Facts, AllocError>
     requires well_formed { IsWellFormed f.now }
-    requires straight_line { IsStraightLine f.now }
+    requires straight_line { IsTrue (is_straight_line f.now) }
     ensures { IfOk result (λ facts. facts ≡ fresh.facts_of f.now) }
 {
     let mut facts = Facts {

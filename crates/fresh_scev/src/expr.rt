@@ -1,8 +1,7 @@
 ghost use Rattle.std.specs.Prelude.{◌≡◌, ◌<◌, ◌^◌, IfOk};
-ghost use Rattle.fresh_scev.specs.Linear.{IsCanonical, number_expr, symbol_expr, sum, difference, multiple, product};
+ghost use Rattle.fresh_scev.specs.Linear.{IsCanonical, number_expr, symbol_expr};
 
-use crate::terms::{difference_terms, multiple_terms, sum_terms};
-use arith_word::{Label, List, Width, add, mul, sub};
+use arith_word::{Label, List, Width};
 use std::alloc::{AllocError, Global};
 use std::marker::Model;
 
@@ -82,58 +81,5 @@ impl Expr {
         ensures canonical { IsCanonical self.now.w self.now.terms }
     {
         self.terms.as_slice()
-    }
-
-    /// `c` times the expression.
-    pub fn times(&self, alloc: Global, c: u64) -> Result<Expr, AllocError>
-        ensures { IfOk result (λ e. e ≡ multiple c self.now) }
-    {
-        let terms = multiple_terms(alloc, self.w, c, self.terms.as_slice())?;
-        Ok(Expr {
-            w: self.w,
-            number: mul(self.w, c, self.number),
-            terms: List::from_vec(terms),
-        })
-    }
-}
-
-/// The sum of two expressions of one width.
-pub fn add_exprs(alloc: Global, a: &Expr, b: &Expr) -> Result<Expr, AllocError>
-    requires { a.now.w ≡ b.now.w }
-    ensures { IfOk result (λ e. e ≡ sum a.now b.now) }
-{
-    let terms = sum_terms(alloc, a.w, a.terms.as_slice(), b.terms.as_slice())?;
-    Ok(Expr {
-        w: a.w,
-        number: add(a.w, a.number, b.number),
-        terms: List::from_vec(terms),
-    })
-}
-
-#[tactic(auto, using(crate::proofs::Merge::subtracted_number))]
-/// The difference of two expressions of one width.
-pub fn sub_exprs(alloc: Global, a: &Expr, b: &Expr) -> Result<Expr, AllocError>
-    requires { a.now.w ≡ b.now.w }
-    ensures { IfOk result (λ e. e ≡ difference a.now b.now) }
-{
-    let terms = difference_terms(alloc, a.w, a.terms.as_slice(), b.terms.as_slice())?;
-    Ok(Expr {
-        w: a.w,
-        number: sub(a.w, a.number, b.number),
-        terms: List::from_vec(terms),
-    })
-}
-
-/// The product of two expressions of one width; `None` exactly where neither is a number.
-pub fn mul_exprs(alloc: Global, a: &Expr, b: &Expr) -> Result<Option<Expr>, AllocError>
-    requires { a.now.w ≡ b.now.w }
-    ensures { IfOk result (λ o. o ≡ product a.now b.now) }
-{
-    if a.terms.as_slice().is_empty() {
-        Ok(Some(b.times(alloc, a.number)?))
-    } else if b.terms.as_slice().is_empty() {
-        Ok(Some(a.times(alloc, b.number)?))
-    } else {
-        Ok(None)
     }
 }

@@ -2,11 +2,15 @@
 //! ScalarEvolution.
 #![tactic(auto)]
 
+mod algebra;
 mod analysis;
 mod expr;
 mod facts;
+mod straight;
 mod terms;
 
-pub use expr::{Expr, Term, add_exprs, mul_exprs, sub_exprs};
+pub use algebra::{add, mul, scale, sub};
 pub use analysis::analyse;
+pub use expr::{Expr, Term};
 pub use facts::Facts;
+pub use straight::is_straight_line;
