@@ -16,7 +16,7 @@ use Rattle.mlir_ir.specs.Values.{Value, arg_values, kind_values, result_values, 
 use Rattle.scev_server.specs.Input.{IsSmallKind}
 use Rattle.scev_server.specs.Plain.{IsPlainItem, IsPlainFunc, item_name, items_of}
 
-kind_has_none : (at : ℕ) (kind : Kind) → IsSmallKind kind → (kind_values at kind ≡ []) × (kind_labels kind ≡ 0)
+pub kind_has_none : (at : ℕ) (kind : Kind) → IsSmallKind kind → (kind_values at kind ≡ []) × (kind_labels kind ≡ 0)
 kind_has_none at (Const v) h = (refl, refl)
 kind_has_none at (Bin op flags a b) h = (refl, refl)
 kind_has_none at (Cast op flags a) h = absurd h
@@ -86,18 +86,22 @@ items_miss (item ∷ items) k x h between =
     ∙ (found_later (plain_value (label_at 0 k 0) item plain) (items_values 0 (k + 1) items) x (omega arith)
     ∙ items_miss items (k + 1) x (All-tail IsPlainItem item items h) (λ i le. between i (omega arith)))
 
+body_values_items : (index : ℕ) (body : Option Body) → body_values index body ≡ items_values index 1 (option_map_or (λ b. b.items) body [])
+body_values_items index None = refl
+body_values_items index (Some body) = refl
+
+-- the values of the first function of a module
+pub values_first : (f : Func) → f.index ≡ 0 → func_values f ≡ arg_values 0 f.args ++ items_values 0 1 (items_of f)
+values_first f first = ap (λ index. arg_values (label_at index 0 0) f.args ++ body_values index f.body) first ∙ ap (λ vs. arg_values 0 f.args ++ vs) (body_values_items 0 f.body)
+
 -- the names of a plain function's values, by item and index
 module _ (f : Func) (plain : IsPlainFunc f) where
   pub plain_items : (body : Option Body) → IfSome body (λ b. All IsPlainItem b.items) → All IsPlainItem (option_map_or (λ b. b.items) body [])
   plain_items None h = All-nil IsPlainItem
   plain_items (Some body) h = h
 
-  body_values_items : (index : ℕ) (body : Option Body) → body_values index body ≡ items_values index 1 (option_map_or (λ b. b.items) body [])
-  body_values_items index None = refl
-  body_values_items index (Some body) = refl
-
   pub values_are : func_values f ≡ arg_values 0 f.args ++ items_values 0 1 (items_of f)
-  values_are = ap (λ index. arg_values (label_at index 0 0) f.args ++ body_values index f.body) plain.first ∙ ap (λ vs. arg_values 0 f.args ++ vs) (body_values_items 0 f.body)
+  values_are = values_first f plain.first
 
   in_both : (xs ys : List Value) (x : ℕ) → name_at (xs ++ ys) x ≡ option_or (name_at xs x) (name_at ys x)
   in_both [] ys x = refl

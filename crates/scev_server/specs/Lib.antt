@@ -7,3 +7,4 @@ pub mod Plain
 pub mod Memory
 pub mod Reply
 pub mod Serving
+pub mod Reading

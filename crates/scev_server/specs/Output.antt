@@ -55,5 +55,5 @@ log_section = codes "== log" ++ 10 ∷ []
 abbrev pub equal_section : List ℕ
 equal_section = codes "== equal" ++ 10 ∷ []
 
-abbrev pub Output : Input → List ℕ → Type 0
+unfoldable pub Output : Input → List ℕ → Type 0
 Output input text = (parts : List ℕ) × AreParts input.func input.sessions parts × (text ≡ parts ++ log_section ++ equal_section)

@@ -1,5 +1,5 @@
 -- Functions of which each item is one small operation with one named result.
-use Rattle.std.specs.Prelude.{◌≡◌, ◌≢◌, ℕ, ◌^◌, ◌≤◌, List, [], ◌∷◌, All, Option, IfSome, length, slice_get}
+use Rattle.std.specs.Prelude.{◌≡◌, ◌≢◌, ℕ, ◌^◌, ◌≤◌, List, [], ◌∷◌, All, Option, IfSome, length, slice_get, IsTrue}
 use Rattle.std.specs.Option.{option_map_or}
 use Rattle.mlir_ir.specs.declared.types.Body.{Body}
 use Rattle.mlir_ir.specs.declared.types.Func.{Func}
@@ -7,7 +7,7 @@ use Rattle.mlir_ir.specs.declared.types.IrType.{IrType}
 use Rattle.mlir_ir.specs.declared.types.Item.{Item}
 use Rattle.mlir_ir.specs.declared.types.Op.{Op}
 use Rattle.mlir_ir.specs.declared.types.Pack.{Pack}
-use Rattle.fresh_scev.specs.Straight.{IsStraightLine}
+use Rattle.fresh_scev.specs.Straight.{is_straight_line}
 use Rattle.mlir_ir.specs.Check.{IsWellFormed}
 use Rattle.mlir_ir.specs.Values.{Value, func_values}
 use Rattle.scev_server.specs.Input.{IsSmallKind}
@@ -46,4 +46,4 @@ item_name item = option_map_or (λ op. option_map_or (λ pack. pack.name) (slice
 pub record IsAnalysable (f : Func) : Type 0 where
   pub plain : IsPlainFunc f
   pub well_formed : IsWellFormed f
-  pub straight_line : IsStraightLine f
+  pub straight_line : IsTrue (is_straight_line f)

@@ -1,25 +1,20 @@
 -- What is answered to which bytes.
 use Rattle.std.specs.Prelude.{ℕ, ◌≡◌, List, [], ◌∷◌, ◌++◌, codes, Bool, cond}
+use Rattle.scev_server.specs.Output.{Output}
+use Rattle.scev_server.specs.Reading.{IsSmallInput}
+use Rattle.scev_server.specs.declared.input.Input.{Input}
 
 -- the most bytes of an input
 abbrev pub input_limit : ℕ
 input_limit = 4194304
 
--- an input: so far one without a module and without sessions
-pub record Input : Type 0 where
-  pub sessions : ℕ
-
 -- the bytes are a text of the input
 unfoldable pub IsInput : Input → List ℕ → Type 0
-IsInput input bytes = (input.sessions ≡ 0) × (bytes ≡ [])
+IsInput input bytes = IsSmallInput input bytes
 
 -- the bytes are no text of any input
 unfoldable pub IsNoInput : List ℕ → Type 0
 IsNoInput bytes = (input : Input) → IsInput input bytes → ⊥
-
--- the text is an output of the input
-unfoldable pub Output : Input → List ℕ → Type 0
-Output input text = text ≡ codes "== log" ++ 10 ∷ [] ++ codes "== equal" ++ 10 ∷ []
 
 -- the line that is written where the bytes are no input
 abbrev pub refusal_line : List ℕ

@@ -8,6 +8,7 @@ mod names;
 mod outside;
 mod reply;
 mod session;
+mod small;
 mod standard;
 mod status;
 mod top;

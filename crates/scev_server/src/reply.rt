@@ -2,7 +2,12 @@ ghost use Rattle.std.specs.Prelude.{IfOk};
 ghost use Rattle.scev_server.specs.Reply.{IsReply};
 
 use crate::outside::Gate;
+use crate::session::output_text;
+use crate::small::read_input;
 use std::alloc::{AllocError, Global};
+
+/// The line that refuses bytes that are no input.
+const REFUSAL: &[u8] = b"bad input: not here at 0\n";
 
 /// The text that answers an input or refuses other bytes, and which of the two it is.
 #[derive(Debug, Drop)]
@@ -12,18 +17,17 @@ pub struct Reply {
 }
 
 /// The reply to these bytes. The gate is passed before each command.
-#[tactic(auto, unfolding(crate::specs::Reply::IsInput, crate::specs::Reply::IsNoInput, crate::specs::Reply::Output))]
+#[tactic(auto, using(crate::proofs::Sound::analysable), unfolding(crate::specs::Reply::IsInput, crate::specs::Reply::IsNoInput))]
 pub fn reply_to<G: Gate>(alloc: Global, bytes: &[u8], gate: &G) -> Result<Reply, AllocError>
     ensures { IfOk result (λ r. IsReply r.accepted bytes.now r.text.items) }
 {
-    let _ = gate;
-    match bytes {
-        [] => Ok(Reply {
-            text: Vec::from_slice(alloc, b"== log\n== equal\n")?,
+    match read_input(alloc, bytes)? {
+        Some(input) => Ok(Reply {
+            text: output_text(alloc, &input, gate)?.into_bytes(),
             accepted: true,
         }),
-        _ => Ok(Reply {
-            text: Vec::from_slice(alloc, b"bad input: not here at 0\n")?,
+        None => Ok(Reply {
+            text: Vec::from_slice(alloc, REFUSAL)?,
             accepted: false,
         }),
     }

@@ -93,6 +93,7 @@ fn push_parts<G: Gate>(
 }
 
 /// The output of an input.
+#[tactic(auto, unfolding(crate::specs::Output::Output))]
 pub fn output_text<G: Gate>(alloc: Global, input: &Input, gate: &G) -> Result<String, AllocError>
     requires func { IsAnalysable input.now.func }
     requires few { length input.now.sessions ≤ 1 }
