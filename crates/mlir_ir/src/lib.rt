@@ -3,12 +3,18 @@
 #![tactic(auto)]
 
 mod count;
+mod lookup;
 mod module;
+mod names;
+mod outer;
 mod rules;
+mod scope;
 mod shape;
 mod types;
+mod uses;
 
 pub use module::Module;
+pub use names::is_name;
 pub use shape::{Shape, ShapeFault};
 pub use types::{
     Arg, Body, Flags, ForParts, Func, IrType, Item, Kind, Op, Pack, Region, WhileParts,
