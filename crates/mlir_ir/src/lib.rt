@@ -3,13 +3,18 @@
 #![tactic(auto)]
 
 mod count;
+mod counted;
+mod fault;
+mod keeps;
 mod lookup;
 mod module;
 mod names;
 mod outer;
+mod position;
 mod rules;
 mod scope;
 mod shape;
+mod typed;
 mod types;
 mod uses;
 

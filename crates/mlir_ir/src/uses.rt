@@ -3,16 +3,27 @@ ghost use Rattle.mlir_ir.specs.Rules as spec;
 ghost use Rattle.mlir_ir.specs.Scope.{scope_values};
 
 use crate::scope::Scope;
-use crate::types::{Arg, ForParts, IrType, Kind, WhileParts};
-use arith_word::Label;
+use crate::types::{Arg, IrType, Kind};
+use arith_word::{Label, Width};
+
+fn is_int(width: Width, ty: IrType) -> bool
+    ensures { result ≡ spec.same_type (IrType.Int width) ty }
+{
+    match ty {
+        IrType::Int(other) => width.bits() == other.bits(),
+        IrType::Index => false,
+    }
+}
 
 pub(crate) fn same_type(a: IrType, b: IrType) -> bool
     ensures { result ≡ spec.same_type a b }
 {
-    match (a, b) {
-        (IrType::Int(a), IrType::Int(b)) => a.bits() == b.bits(),
-        (IrType::Index, IrType::Index) => true,
-        _ => false,
+    match a {
+        IrType::Int(width) => is_int(width, b),
+        IrType::Index => match b {
+            IrType::Int(_) => false,
+            IrType::Index => true,
+        },
     }
 }
 
@@ -49,6 +60,7 @@ pub(crate) fn agree(scope: &Scope, a: Label, b: Label) -> bool
 }
 
 /// Whether uses have the types that belong to them, as far as both lists go.
+#[tactic(auto, using(crate::proofs::Pairs::no_labels))]
 pub(crate) fn have_types(scope: &Scope, types: &[IrType], labels: &[Label]) -> bool
     ensures { result ≡ spec.have_types (scope_values scope.now) types.now labels.now }
 {
@@ -64,6 +76,7 @@ pub(crate) fn have_types(scope: &Scope, types: &[IrType], labels: &[Label]) -> b
 }
 
 /// Whether first values have the types of their arguments, as far as both lists go.
+#[tactic(auto, using(crate::proofs::Pairs::no_labels))]
 pub(crate) fn have_arg_types(scope: &Scope, args: &[Arg], labels: &[Label]) -> bool
     ensures { result ≡ spec.have_types (scope_values scope.now) (spec.arg_types args.now) labels.now }
 {
