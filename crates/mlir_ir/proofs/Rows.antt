@@ -2,16 +2,18 @@
 use Rattle.std.proofs.Common.{◌≡◌, ℕ, ◌+◌, List, [], ◌∷◌, ◌++◌, refl, ap, ◌∙◌, sym, arith}
 use Rattle.mlir_ir.specs.declared.types.Op.{Op}
 use Rattle.mlir_ir.specs.declared.types.Region.{Region, Region', Row_of-Op, end_of-Op, more_of-Op, items-the_row-Op, out-Region, items_shown-the_row-Op-0}
-use Rattle.std.proofs.Common.{nat_lt, length}
+use Rattle.std.proofs.Common.{nat_lt, length, false}
 use Rattle.arith_word.specs.declared.label.Label.{Label}
 use Rattle.mlir_ir.specs.declared.rules.Nest.{Nest}
 use Rattle.mlir_ir.specs.declared.rules.Position.{Position}
 use Rattle.mlir_ir.specs.declared.rules.Rules.{Rules}
 use Rattle.mlir_ir.specs.declared.shape.Shape.{Shape}
 use Rattle.mlir_ir.specs.declared.types.IrType.{IrType}
-use Rattle.mlir_ir.specs.Check.{row_ops, kind_ops, region_ops, ops_ops, row_results, results_of, row_breaks, ops_breaks, kind_breaks, breaks_at, past, past_row, past_ops, arm_breaks, before_breaks, turn_breaks}
-use Rattle.mlir_ir.specs.Rules.{has_yield, op_rules, yield_rules, condition_rules, turn_rules}
-use Rattle.mlir_ir.specs.Values.{Value, result_values}
+use Rattle.mlir_ir.specs.Check.{row_ops, kind_ops, region_ops, ops_ops, row_results, results_of, row_breaks, ops_breaks, kind_breaks, breaks_at, past, past_row, past_ops, arm_breaks, before_breaks, turn_breaks, for_breaks, while_breaks, args_breaks, past_region}
+use Rattle.mlir_ir.specs.Rules.{has_yield, op_rules, yield_rules, condition_rules, turn_rules, arg_types}
+use Rattle.mlir_ir.specs.Values.{Value, arg_values, result_values}
+use Rattle.mlir_ir.specs.declared.types.ForParts.{ForParts, ForParts', out-ForParts}
+use Rattle.mlir_ir.specs.declared.types.WhileParts.{WhileParts, WhileParts', out-WhileParts}
 use Rattle.mlir_ir.specs.Labels.{row_labels, ops_labels, region_labels, kind_labels}
 
 labels_items : (n : _) (row : Row_of-Op n) → row_labels row ≡ ops_labels (items-the_row-Op n row)
@@ -78,3 +80,34 @@ unfolding turn_breaks out-Region denote.Hole.Carrier.out Rattle.mlir_ir.specs.de
 turn_breaks_ops scope nest at wanted (Region' shape row ends) =
     row_ended scope nest at (λ s e. turn_rules s wanted e) _ row ends
     ∙ ap (λ ops. ended scope nest at (λ s e. turn_rules s wanted e) ops ends) (sym (items_shown-the_row-Op-0 shape row))
+
+-- loops, by their parts
+
+pub for_breaks_parts : (scope : List Value) (nest : Nest) (at : Position) (results : List IrType) (p : ForParts)
+    → for_breaks scope nest at results p
+    ≡ (args_breaks false 0 [] scope at ((out-ForParts p).iv ∷ [])
+      ++ args_breaks false 0 [] (scope ++ arg_values at.next ((out-ForParts p).iv ∷ [])) (past 1 0 at) (out-ForParts p).args
+      ++ arm_breaks
+      (scope ++ arg_values at.next ((out-ForParts p).iv ∷ []) ++ arg_values (at.next + 1) (out-ForParts p).args)
+      nest
+      (past (length (out-ForParts p).args) 0 (past 1 0 at))
+      results
+      (out-ForParts p).body)
+unfolding for_breaks out-ForParts denote.Hole.Carrier.out
+for_breaks_parts scope nest at results (ForParts' lower upper step iv args inits body) = refl
+
+pub while_breaks_parts : (scope : List Value) (nest : Nest) (at : Position) (results : List IrType) (p : WhileParts)
+    → while_breaks scope nest at results p
+    ≡ (let in_before = past (length (out-WhileParts p).args) 0 at in
+      let behind = past_region (out-WhileParts p).before in_before in
+      args_breaks false 0 [] scope at (out-WhileParts p).args
+      ++ before_breaks (scope ++ arg_values at.next (out-WhileParts p).args) nest in_before results (out-WhileParts p).cond (out-WhileParts p).before
+      ++ args_breaks false 0 results scope behind (out-WhileParts p).after_args
+      ++ turn_breaks
+      (scope ++ arg_values behind.next (out-WhileParts p).after_args)
+      nest
+      (past (length (out-WhileParts p).after_args) 0 behind)
+      (arg_types (out-WhileParts p).args)
+      (out-WhileParts p).after)
+unfolding while_breaks out-WhileParts denote.Hole.Carrier.out
+while_breaks_parts scope nest at results (WhileParts' args inits before cond after_args after) = refl

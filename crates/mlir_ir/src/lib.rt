@@ -2,6 +2,7 @@
 //! the definitions of their canonical text and of a well-formed function.
 #![tactic(auto)]
 
+mod args;
 mod count;
 mod counted;
 mod fault;
@@ -17,6 +18,7 @@ mod shape;
 mod typed;
 mod types;
 mod uses;
+mod walk;
 
 pub use module::Module;
 pub use names::is_name;
