@@ -4,3 +4,4 @@ pub mod Numbers
 pub mod Walks
 pub mod Limits
 pub mod Totals
+pub mod Runs
