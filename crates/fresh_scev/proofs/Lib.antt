@@ -4,3 +4,6 @@ pub mod Numbers
 pub mod Walks
 pub mod Limits
 pub mod Totals
+pub mod Places
+pub mod Runs
+pub mod Runners

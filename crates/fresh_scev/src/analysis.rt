@@ -1,9 +1,11 @@
-ghost use Rattle.std.specs.Prelude.{◌≡◌, ◌+◌, ◌<◌, ◌≤◌, ◌^◌, IfOk, IsTrue, OnOk, [], length};
+ghost use Rattle.std.specs.Prelude.{◌≡◌, ◌+◌, ◌<◌, ◌≤◌, ◌^◌, ◌%◌, ℕ, IfOk, IfSome, IsTrue, OnOk, [], length};
 ghost use Rattle.std.specs.Option.{option_copied};
 ghost use Rattle.mlir_ir.specs.Labels.{ops_labels, label_at};
 ghost use Rattle.mlir_ir.specs.Words.{bits_of};
 ghost use Rattle.fresh_scev.specs.Fresh.{expr_at, with_item} ;
 ghost use Rattle.fresh_scev.specs.Fresh as fresh;
+ghost use Rattle.fresh_scev.specs.Run.{IsRun};
+ghost use Rattle.fresh_scev.specs.Values.{value};
 ghost use Rattle.fresh_scev.specs.Straight.{HaveLabels, is_straight_line};
 ghost use Rattle.mlir_ir.specs.Check.{IsWellFormed};
 
@@ -132,13 +134,14 @@ fn push_items(alloc: Global, facts: &mut Facts, items: &[Item]) -> Result<(), Al
     Ok(())
 }
 
-/// The expressions of all values of a function. Its time is near-linear in the operations and the
-/// sizes of their expressions.
+/// The expressions of all values of a function, and in each run the number of a value is that of its
+/// expression. Its time is near-linear in the operations and the sizes of their expressions.
 #[tactic(auto, using(crate::proofs::Limits::limits))]
 pub fn analyse(alloc: Global, f: &Func) -> Result<Facts, AllocError>
     requires well_formed { IsWellFormed f.now }
     requires straight_line { IsTrue (is_straight_line f.now) }
-    ensures { IfOk result (λ facts. facts ≡ fresh.facts_of f.now) }
+    ensures facts { IfOk result (λ facts. facts ≡ fresh.facts_of f.now) }
+    ensures values { IfOk result (λ facts. (env : ℕ → ℕ) → IsRun env f.now → (label : ℕ) → IfSome (expr_at facts label) (λ e. value env e ≡ env label % 2 ^ e.w)) }
 {
     let mut facts = Facts {
         func: f.index,

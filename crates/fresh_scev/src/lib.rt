@@ -6,6 +6,7 @@ mod algebra;
 mod analysis;
 mod expr;
 mod facts;
+mod laws;
 mod straight;
 mod terms;
 
@@ -13,4 +14,5 @@ pub use algebra::{add, mul, scale, sub};
 pub use analysis::analyse;
 pub use expr::{Expr, Term};
 pub use facts::Facts;
+pub use laws::rules_keep_values;
 pub use straight::is_straight_line;
