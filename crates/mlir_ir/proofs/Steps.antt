@@ -6,6 +6,7 @@ use Rattle.std.proofs.lemmas.List.{take_more, drop_more}
 use Rattle.std.specs.Option.{option_or}
 use Rattle.mlir_ir.specs.declared.rules.Nest.{Nest}
 use Rattle.mlir_ir.specs.declared.rules.Position.{Position}
+use Rattle.mlir_ir.specs.declared.rules.Rules.{Rules}
 use Rattle.mlir_ir.specs.declared.shape.Shape.{Shape}
 use Rattle.mlir_ir.specs.declared.types.Arg.{Arg}
 use Rattle.mlir_ir.specs.declared.types.IrType.{IrType}
@@ -129,3 +130,16 @@ next_arg declared wanted scope at args k arg l e =
         rw (arg_more args k arg l e, arg_values_append at.next (take k args) (arg ∷ []), n) (sym (append_assoc scope _ _)) in
     let moved : past 1 0 (past k 0 at) ≡ past (k + 1) 0 at = past_past 1 0 k 0 at in
     rw (arg_rest args k arg l e, grown, ← moved, ← drop_again wanted k) (first_append (breaks_at (past k 0 at).last (arg_rules declared k (drop k wanted) (scope ++ arg_values at.next (take k args)) arg)) _)
+
+-- a break of this step, and none of it
+pub found_here : (before whole here rest : Option Shape) (e : Shape) → before ≡ whole → before ≡ option_or here rest → here ≡ Some e → whole ≡ Some e
+found_here before whole here rest e s p h = let q : option_or here rest ≡ Some e = rw h refl in sym s ∙ (p ∙ q)
+
+pub found_later : (before whole here rest : Option Shape) → before ≡ whole → before ≡ option_or here rest → here ≡ None → rest ≡ whole
+found_later before whole here rest s p h = let q : option_or here rest ≡ rest = rw h refl in sym q ∙ (sym p ∙ s)
+
+-- an argument whose rules are kept
+pub arg_kept : (declared : Bool) (k : ℕ) (wanted : List IrType) (scope : List Value) (at behind : Position) (arg : Arg) (rules : Rules) → behind ≡ past k 0 at
+    → rules ≡ arg_rules declared k wanted scope arg → first (breaks_at behind.last rules) ≡ None → first (breaks_at (past k 0 at).last (arg_rules declared k wanted scope arg)) ≡ None
+arg_kept declared k wanted scope at behind arg rules moved is kept =
+    sym (ap (λ (p : Position). first (breaks_at p.last (arg_rules declared k wanted scope arg))) moved) ∙ (sym (ap (λ (r : Rules). first (breaks_at behind.last r)) is) ∙ kept)

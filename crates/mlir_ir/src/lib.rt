@@ -3,6 +3,7 @@
 #![tactic(auto)]
 
 mod args;
+mod check;
 mod count;
 mod counted;
 mod fault;

@@ -17,6 +17,7 @@ use std::slice;
 
 /// The position past the operations, or their first break.
 #[cycle(walk)]
+#[tactic(auto, using(crate::proofs::Steps::next_op, crate::proofs::Steps::past_ops_more, crate::proofs::Steps::ops_room))]
 pub(crate) fn check_ops<'x>(scope: &'x Scope<'x>, nest: Nest, at: Position, ops: &'x [Op]) -> Result<Position, Shape>
     requires { at.next + ops_labels ops.now < 2 ^ 32 }
     ensures found { spec.first (spec.ops_breaks (scope_values scope.now) nest at ops.now) ≡ result_err result }
@@ -44,6 +45,7 @@ fn check_op<'x>(scope: &'x Scope<'x>, nest: Nest, at: Position, op: &'x Op) -> R
 
 /// The position past what stands inside an operation with these results, or its first break.
 #[cycle(walk)]
+#[tactic(auto, using(crate::proofs::Steps::first_append, crate::proofs::Steps::past_past, crate::proofs::Steps::past_none), unfolding(crate::specs::Check::kind_breaks, crate::specs::Check::else_breaks))]
 fn check_kind<'x>(scope: &'x Scope<'x>, nest: Nest, at: Position, results: &[IrType], kind: &'x Kind) -> Result<Position, Shape>
     requires room { at.next + kind_labels kind.now < 2 ^ 32 }
     requires opens { IsTrue (is_kind_sized nest.regions nest.loops kind.now) }
@@ -64,6 +66,7 @@ fn check_kind<'x>(scope: &'x Scope<'x>, nest: Nest, at: Position, results: &[IrT
 
 /// A region whose yield gives values of these types.
 #[cycle(walk)]
+#[tactic(auto, using(crate::proofs::Rows::arm_breaks_ops, crate::proofs::Rows::region_labels_items, crate::proofs::Rows::region_ops_items, crate::proofs::Steps::first_append))]
 fn check_arm<'x>(scope: &'x Scope<'x>, nest: Nest, at: Position, wanted: &[IrType], region: &'x Region) -> Result<Position, Shape>
     requires { at.next + region_labels region.now < 2 ^ 32 }
     ensures found { spec.first (spec.arm_breaks (scope_values scope.now) nest at wanted.now region.now) ≡ result_err result }
@@ -78,6 +81,7 @@ fn check_arm<'x>(scope: &'x Scope<'x>, nest: Nest, at: Position, wanted: &[IrTyp
 
 /// A loop behind its counter.
 #[cycle(walk)]
+#[tactic(auto, using(crate::proofs::Rows::for_breaks_parts, crate::proofs::Steps::first_append))]
 fn check_for<'x>(scope: &'x Scope<'x>, nest: Nest, at: Position, results: &[IrType], parts: &'x ForParts) -> Result<Position, Shape>
     requires { at.next + for_labels parts.now ≤ 2 ^ 32 }
     ensures found { spec.first (spec.for_breaks (scope_values scope.now) nest at results.now parts.now) ≡ result_err result }
@@ -94,6 +98,7 @@ fn check_for<'x>(scope: &'x Scope<'x>, nest: Nest, at: Position, results: &[IrTy
 
 /// A loop behind its counter.
 #[cycle(walk)]
+#[tactic(auto, using(crate::proofs::Rows::while_breaks_parts, crate::proofs::Steps::first_append))]
 fn check_while<'x>(scope: &'x Scope<'x>, nest: Nest, at: Position, results: &[IrType], parts: &'x WhileParts) -> Result<Position, Shape>
     requires { at.next + while_labels parts.now ≤ 2 ^ 32 }
     ensures found { spec.first (spec.while_breaks (scope_values scope.now) nest at results.now parts.now) ≡ result_err result }
@@ -111,6 +116,7 @@ fn check_while<'x>(scope: &'x Scope<'x>, nest: Nest, at: Position, results: &[Ir
 
 /// The region before a turn, which ends with its condition.
 #[cycle(walk)]
+#[tactic(auto, using(crate::proofs::Rows::before_breaks_ops, crate::proofs::Rows::region_labels_items, crate::proofs::Rows::region_ops_items, crate::proofs::Steps::first_append))]
 fn check_before<'x>(scope: &'x Scope<'x>, nest: Nest, at: Position, results: &[IrType], cond: Label, region: &'x Region) -> Result<Position, Shape>
     requires { at.next + region_labels region.now < 2 ^ 32 }
     ensures found { spec.first (spec.before_breaks (scope_values scope.now) nest at results.now cond region.now) ≡ result_err result }
@@ -125,6 +131,7 @@ fn check_before<'x>(scope: &'x Scope<'x>, nest: Nest, at: Position, results: &[I
 
 /// The region of a turn.
 #[cycle(walk)]
+#[tactic(auto, using(crate::proofs::Rows::turn_breaks_ops, crate::proofs::Rows::region_labels_items, crate::proofs::Rows::region_ops_items, crate::proofs::Steps::first_append))]
 fn check_turn<'x>(scope: &'x Scope<'x>, nest: Nest, at: Position, wanted: &[Arg], region: &'x Region) -> Result<Position, Shape>
     requires { at.next + region_labels region.now < 2 ^ 32 }
     ensures found { spec.first (spec.turn_breaks (scope_values scope.now) nest at (arg_types wanted.now) region.now) ≡ result_err result }
