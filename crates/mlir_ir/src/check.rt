@@ -1,4 +1,4 @@
-ghost use Rattle.std.specs.Prelude.{◌≡◌, ◌+◌, ◌*◌, ◌<◌, ◌≤◌, ◌^◌, ◌++◌, [], length, nat_le, IfOk, OnOk, IsFalse, MatchResult, Some};
+ghost use Rattle.std.specs.Prelude.{◌≡◌, ◌+◌, ◌*◌, ◌<◌, ◌≤◌, ℕ, ◌^◌, ◌++◌, [], length, nat_le, IfOk, OnOk, IsFalse, MatchResult, Some};
 ghost use Rattle.std.specs.Result.{result_err};
 ghost use Rattle.mlir_ir.specs.Check as spec;
 ghost use Rattle.mlir_ir.specs.Labels.{ops_labels};
@@ -23,10 +23,11 @@ fn are_few(ops: &[Op]) -> bool
     skip_ops(ops, 16383).is_some()
 }
 
-/// The break of an item that passes a limit: one of its first operation, where it has one.
+/// The first break of an item that passes a limit: one of its first operation, where it has one,
+/// whatever its labels begin with.
 fn check_excess(scope: &Scope, nest: Nest, at: Position, ops: &[Op]) -> Result<(), Shape>
     requires { IsFalse nest.item_fits }
-    ensures found { spec.first (spec.ops_breaks (scope_values scope.now) nest at ops.now) ≡ result_err result }
+    ensures found { (func k : ℕ) → spec.first (spec.ops_breaks (scope_values scope.now) nest (spec.at_item func k at) ops.now) ≡ result_err result }
     ensures none { OnOk result (ops.now ≡ []) }
 {
     if ops.is_empty() {
@@ -60,5 +61,64 @@ fn check_item(scope: &Scope, func: u8, number: usize, at: Position, item: &Item)
     } else {
         check_excess(scope, nest, at, ops)?;
         Ok(at)
+    }
+}
+
+/// The first break of a function's items and its return.
+fn check_body(func: &Func, body: &Body, at: Position) -> Result<(), Shape>
+    requires few { length func.now.args ≤ 16 }
+    requires begin { at ≡ spec.past_args func.now.args (spec.func_begin func.now) }
+    ensures { spec.first (spec.body_breaks func.now (Some body.now)) ≡ result_err result }
+{
+    let args = func.args.as_slice();
+    let items = body.items.as_slice();
+    let mut behind = at;
+    for (k, item) in items.iter().enumerate() {
+        let outer = Outer {
+            func: func.index,
+            args,
+            items: &items[..k],
+        };
+        behind = check_item(&Scope::Top(outer), func.index, k + 1, behind, item)?;
+    }
+    let outer = Outer {
+        func: func.index,
+        args,
+        items,
+    };
+    let results = func.results.as_slice();
+    let ret = body.ret.as_slice();
+    keep(behind.last, return_rules(&Scope::Top(outer), results, items.len(), ret))
+}
+
+impl Func {
+    /// Whether the function is well formed: `Ok` exactly where no rule is broken, else the first
+    /// break in the order of labels, which is that of the text. Takes no memory.
+    ///
+    /// # Errors
+    ///
+    /// The first [`Shape`]: its fault, and the last label that is given before the place of the
+    /// break.
+    #[tactic(auto, using(crate::proofs::Steps::first_append, crate::proofs::Steps::first_none))]
+    pub fn check(&self) -> Result<(), Shape>
+        ensures { MatchResult result (λ _. spec.IsWellFormed self.now) (λ shape. spec.first (spec.breaks self.now) ≡ Some shape) }
+    {
+        let base = self.index as u32 * 16777216;
+        let begin = Position {
+            next: base,
+            last: base,
+            ops: 0,
+        };
+        keep(base, head_rules(self))?;
+        let outside = Scope::Top(Outer {
+            func: self.index,
+            args: &[],
+            items: &[],
+        });
+        let behind = check_args(&outside, self.body.is_none(), &[], begin, self.args.as_slice())?;
+        match &self.body {
+            None => Ok(()),
+            Some(body) => Ok(check_body(self, body, behind)?),
+        }
     }
 }
