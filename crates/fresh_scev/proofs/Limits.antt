@@ -73,9 +73,10 @@ item_fits func k item scope at e = fits item.ops refl e
 
 items_fit : (func k : ℕ) (scope : List Value) (at : Position) (items : List Item) → items_breaks func k scope at items ≡ [] → HaveLabels items
 items_fit func k scope at [] e = tt
-items_fit func k scope at (item ∷ items) e =
-    (item_fits func k item scope (at_item func k at) (left_none (ops_breaks scope (in_item k item) (at_item func k at) item.ops) _ e),
-    items_fit func (k + 1) (scope ++ results_of (label_at func k 0) item.ops) (past_ops item.ops (at_item func k at)) items (right_none (ops_breaks scope (in_item k item) (at_item func k at) item.ops) _ e))
+items_fit func k scope at (item ∷ items) e = (
+  item_fits func k item scope (at_item func k at) (left_none (ops_breaks scope (in_item k item) (at_item func k at) item.ops) _ e),
+  items_fit func (k + 1) (scope ++ results_of (label_at func k 0) item.ops) (past_ops item.ops (at_item func k at)) items (right_none (ops_breaks scope (in_item k item) (at_item func k at) item.ops) _ e),
+)
 
 args_fit : (declared : Bool) (n : ℕ) (wanted : List IrType) (scope : List Value) (at : Position) (args : List Arg) → n ≤ list_limit → args_breaks declared n wanted scope at args ≡ [] → n + length args ≤ list_limit
 args_fit declared n wanted scope at [] le e = omega arith

@@ -2,7 +2,7 @@ ghost use Rattle.std.specs.Prelude.{◌≡◌, ◌+◌, ◌<◌, ◌≤◌, ◌^
 ghost use Rattle.std.specs.Option.{option_copied};
 ghost use Rattle.mlir_ir.specs.Labels.{ops_labels, label_at};
 ghost use Rattle.mlir_ir.specs.Words.{bits_of};
-ghost use Rattle.fresh_scev.specs.Fresh.{expr_at, with_item} ;
+ghost use Rattle.fresh_scev.specs.Fresh.{expr_at, with_item};
 ghost use Rattle.fresh_scev.specs.Fresh as fresh;
 ghost use Rattle.fresh_scev.specs.Run.{IsRun};
 ghost use Rattle.fresh_scev.specs.Values.{value};
@@ -59,7 +59,13 @@ fn op_expr(alloc: Global, op: BinOp, own: Expr, a: &Expr, b: &Expr) -> Result<Ex
 }
 
 /// An operation on two operands, which have the width of the result.
-fn bin_expr(alloc: Global, op: BinOp, own: Expr, a: Option<&Expr>, b: Option<&Expr>) -> Result<Expr, AllocError>
+fn bin_expr(
+    alloc: Global,
+    op: BinOp,
+    own: Expr,
+    a: Option<&Expr>,
+    b: Option<&Expr>,
+) -> Result<Expr, AllocError>
     ensures { IfOk result (λ e. e ≡ fresh.bin_expr op own (option_copied a.entry) (option_copied b.entry)) }
 {
     match (a, b) {
@@ -69,24 +75,44 @@ fn bin_expr(alloc: Global, op: BinOp, own: Expr, a: Option<&Expr>, b: Option<&Ex
 }
 
 /// A result of an operation, whose own symbol is given.
-fn kind_expr(alloc: Global, facts: &Facts, here: &Items<Expr>, own: Expr, kind: &Kind) -> Result<Expr, AllocError>
+fn kind_expr(
+    alloc: Global,
+    facts: &Facts,
+    here: &Items<Expr>,
+    own: Expr,
+    kind: &Kind,
+) -> Result<Expr, AllocError>
     ensures { IfOk result (λ e. e ≡ fresh.kind_expr (with_item facts.now here.now) own kind.now) }
 {
     match kind {
         Kind::Const(v) => Ok(Expr::number(alloc, own.w, *v)),
-        Kind::Bin(op, _, a, b) => bin_expr(alloc, *op, own, find(facts, here, *a), find(facts, here, *b)),
+        Kind::Bin(op, _, a, b) => bin_expr(
+            alloc,
+            *op,
+            own,
+            find(facts, here, *a),
+            find(facts, here, *b),
+        ),
         _ => Ok(own),
     }
 }
 
 /// Adds the results of an operation.
-fn push_results(alloc: Global, facts: &Facts, here: &mut Items<Expr>, kind: &Kind, results: &[IrType]) -> Result<(), AllocError>
+fn push_results(
+    alloc: Global,
+    facts: &Facts,
+    here: &mut Items<Expr>,
+    kind: &Kind,
+    results: &[IrType],
+) -> Result<(), AllocError>
     requires items { length facts.now.items < 2 ^ 10 }
     requires labels { length here.old + length results.now ≤ 2 ^ 14 }
     ensures { OnOk result (here.new ≡ fresh.with_results facts.now kind.now here.old results.now) }
 {
     for ty in results {
-        let label = facts.func as u32 * (1 << 24) + facts.items.len() as u32 * (1 << 14) + here.len() as u32;
+        let label = facts.func as u32 * (1 << 24)
+            + facts.items.len() as u32 * (1 << 14)
+            + here.len() as u32;
         let own = Expr::symbol(alloc, width_of(*ty), Label(label))?;
         let expr = kind_expr(alloc, facts, here, own, kind)?;
         here.push(expr)?;
@@ -147,7 +173,9 @@ pub fn analyse(alloc: Global, f: &Func) -> Result<Facts, AllocError>
         func: f.index,
         items: Items::new(alloc),
     };
-    facts.items.push(arg_exprs(alloc, f.index, f.args.as_slice())?)?;
+    facts
+        .items
+        .push(arg_exprs(alloc, f.index, f.args.as_slice())?)?;
     if let Some(body) = &f.body {
         push_items(alloc, &mut facts, body.items.as_slice())?;
     }
