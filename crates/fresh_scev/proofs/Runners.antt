@@ -49,7 +49,7 @@ holds_results env facts kind here (ty ∷ tys) f k i known h =
     (is_kind env (with_item facts here) (next_label facts here) own kind known (is_symbol env (bits_of ty) (next_label facts here) fits) h.0))
     (subst P next h.1)
 
-no_labels : (kind : Kind) → holds_no_region kind ≡ true → kind_labels kind ≡ 0
+pub no_labels : (kind : Kind) → holds_no_region kind ≡ true → kind_labels kind ≡ 0
 no_labels (Const v) h = refl
 no_labels (Bin op flags a b) h = refl
 no_labels (Cast op flags a) h = refl
