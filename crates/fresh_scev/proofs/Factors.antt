@@ -60,13 +60,13 @@ from_own w first (suc count) last [] e h k = from_own w (first + 1) count last [
 from_own w first (suc count) last (t ∷ ts) e h k =
     elim (cases_lt first t.symbol.0) [
       | inl lt ↦
-        let none : factor_of (t ∷ ts) first ≡ 0 = factor_of-below first (t ∷ ts) (lt, above_more first t.symbol.0 ts lt h.3) in
-        rw none (from_own w (first + 1) count last (t ∷ ts) (omega arith) h (within_next first last t ts lt h.3 k))
+          let none : factor_of (t ∷ ts) first ≡ 0 = factor_of-below first (t ∷ ts) (lt, above_more first t.symbol.0 ts lt h.3) in
+          rw none (from_own w (first + 1) count last (t ∷ ts) (omega arith) h (within_next first last t ts lt h.3 k))
       | inr ge ↦
-        let same : first ≡ t.symbol.0 = le_antisymm k.0.0 ge in
-        let next : terms_from (first + 1) count (factor_of (t ∷ ts)) ≡ terms_from (first + 1) count (factor_of ts) = terms_from-same (first + 1) count (factor_of (t ∷ ts)) (factor_of ts) (λ x le. factor_of-apart x t ts (omega arith)) in
-        let rest : terms_from (first + 1) count (factor_of ts) ≡ ts = from_own w (first + 1) count last ts (omega arith) h.4 (within_above first last ts (let P : ℕ → Type 0 = λ y. AreAbove y ts in subst P (sym same) h.3) k.1) in
-        rw (factor_of-here first t ts same h.3, term_of-some first t same h.1, next, rest) refl
+          let same : first ≡ t.symbol.0 = le_antisymm k.0.0 ge in
+          let next : terms_from (first + 1) count (factor_of (t ∷ ts)) ≡ terms_from (first + 1) count (factor_of ts) = terms_from-same (first + 1) count (factor_of (t ∷ ts)) (factor_of ts) (λ x le. factor_of-apart x t ts (omega arith)) in
+          let rest : terms_from (first + 1) count (factor_of ts) ≡ ts = from_own w (first + 1) count last ts (omega arith) h.4 (within_above first last ts (let P : ℕ → Type 0 = λ y. AreAbove y ts in subst P (sym same) h.3) k.1) in
+          rw (factor_of-here first t ts same h.3, term_of-some first t same h.1, next, rest) refl
     ]
 
 pub all_within : (w : ℕ) (ts : List Term) → IsCanonical w ts → AreWithin 0 (2 ^ 32) ts

@@ -7,3 +7,4 @@ pub mod Totals
 pub mod Places
 pub mod Runs
 pub mod Runners
+pub mod Knowing

@@ -16,7 +16,7 @@ use Rattle.mlir_ir.specs.declared.types.Item.{Item}
 use Rattle.mlir_ir.specs.declared.types.Op.{Op}
 use Rattle.mlir_ir.specs.Labels.{ops_labels, label_at}
 use Rattle.mlir_ir.specs.Values.{Value, arg_values}
-use Rattle.mlir_ir.specs.Rules.{op_rules, arg_rules, head_rules, return_rules, item_limit, label_limit, list_limit}
+use Rattle.mlir_ir.specs.Rules.{op_rules, arg_rules, head_rules, return_rules, item_limit, label_limit, list_limit, packs_hold}
 use Rattle.mlir_ir.specs.Check.{unless, breaks_at, op_breaks, ops_breaks, items_breaks, args_breaks, body_breaks, breaks, IsWellFormed, past, past_op, past_ops, past_items, past_args, at_item, in_item, op_results, results_of, outer_values, func_begin, is_declaration}
 use Rattle.fresh_scev.specs.Fresh.{items_of}
 use Rattle.fresh_scev.specs.Straight.{HaveLabels}
@@ -73,9 +73,10 @@ item_fits func k item scope at e = fits item.ops refl e
 
 items_fit : (func k : ℕ) (scope : List Value) (at : Position) (items : List Item) → items_breaks func k scope at items ≡ [] → HaveLabels items
 items_fit func k scope at [] e = tt
-items_fit func k scope at (item ∷ items) e =
-    (item_fits func k item scope (at_item func k at) (left_none (ops_breaks scope (in_item k item) (at_item func k at) item.ops) _ e),
-    items_fit func (k + 1) (scope ++ results_of (label_at func k 0) item.ops) (past_ops item.ops (at_item func k at)) items (right_none (ops_breaks scope (in_item k item) (at_item func k at) item.ops) _ e))
+items_fit func k scope at (item ∷ items) e = (
+  item_fits func k item scope (at_item func k at) (left_none (ops_breaks scope (in_item k item) (at_item func k at) item.ops) _ e),
+  items_fit func (k + 1) (scope ++ results_of (label_at func k 0) item.ops) (past_ops item.ops (at_item func k at)) items (right_none (ops_breaks scope (in_item k item) (at_item func k at) item.ops) _ e),
+)
 
 args_fit : (declared : Bool) (n : ℕ) (wanted : List IrType) (scope : List Value) (at : Position) (args : List Arg) → n ≤ list_limit → args_breaks declared n wanted scope at args ≡ [] → n + length args ≤ list_limit
 args_fit declared n wanted scope at [] le e = omega arith
@@ -115,3 +116,39 @@ pub labels_at : (items : List Item) (i : ℕ) (item : Item) → HaveLabels items
 labels_at [] i item h lt e = absurd (omega arith)
 labels_at (x ∷ items) zero item h lt e = rw e h.0
 labels_at (x ∷ items) (suc i) item h lt e = labels_at items i item h.1 (omega arith) e
+
+-- the packs of each operation hold its results
+abbrev pub HavePacks : List Op → Type 0
+HavePacks ops = AllByRecursion (λ (op : Op). packs_hold op.packs (length op.results) ≡ true) ops
+
+abbrev pub ItemsHavePacks : List Item → Type 0
+ItemsHavePacks items = AllByRecursion (λ (item : Item). HavePacks item.ops) items
+
+ops_packs : (scope : List Value) (nest : Nest) (at : Position) (ops : List Op) → ops_breaks scope nest at ops ≡ [] → HavePacks ops
+ops_packs scope nest at [] e = tt
+ops_packs scope nest at (op ∷ ops) e =
+    let rules = op_rules scope nest at op.packs op.results op.kind in
+    let first : List Shape = op_breaks scope nest at op in
+    let counted : rules.counted ≡ true = (keeps at.last rules (left_none (breaks_at at.last rules) _ (left_none first _ e))).counted in
+    ((and_parts (packs_hold op.packs (length op.results)) _ counted).0, ops_packs (scope ++ op_results at.next op) nest (past_op op at) ops (right_none first _ e))
+
+items_packs : (func k : ℕ) (scope : List Value) (at : Position) (items : List Item) → items_breaks func k scope at items ≡ [] → ItemsHavePacks items
+items_packs func k scope at [] e = tt
+items_packs func k scope at (item ∷ items) e =
+    let first : List Shape = ops_breaks scope (in_item k item) (at_item func k at) item.ops in
+    (ops_packs scope (in_item k item) (at_item func k at) item.ops (left_none first _ e),
+    items_packs func (k + 1) (scope ++ results_of (label_at func k 0) item.ops) (past_ops item.ops (at_item func k at)) items (right_none first _ e))
+
+body_packs : (f : Func) (body : Option Body) → body_breaks f body ≡ [] → ItemsHavePacks (items_of body)
+body_packs f None e = tt
+body_packs f (Some body) e =
+    let begin = past_args f.args (func_begin f) in
+    let scope = arg_values (label_at f.index 0 0) f.args in
+    let walk : List Shape = items_breaks f.index 1 scope begin body.items in
+    items_packs f.index 1 scope begin body.items (left_none walk _ e)
+
+pub packs : (f : Func) → IsWellFormed f → ItemsHavePacks (items_of f.body)
+packs f e =
+    let front : List Shape = breaks_at (func_begin f).last (head_rules f) in
+    let heads : List Shape = args_breaks (is_declaration f.body) 0 [] [] (func_begin f) f.args in
+    body_packs f f.body (right_none (front ++ heads) _ e)

@@ -77,27 +77,27 @@ push : (w c : ℕ) (a b out ra rb : List Term) (x s : ℕ) → IsCanonical w out
 push w c a b out ra rb x s done left right new before_left before_right above_left above_right fits least sums =
     elim (cases_lt 0 s) [
       | inl lt ↦
-        let some : (s == 0) ≡ false = ne_eqb s 0 (λ z. omega (arith, z, lt)) in
-        let t : Term = record { symbol = record { 0 = x }; factor = s } in
-        rw some (record {
-          sum = λ y. ap (λ n. n % 2 ^ w) (omega (arith, factor_of-append out (t ∷ []) y)) ∙ sums y;
-          done = canonical-push w out t done new fits lt least;
-          left = left;
-          right = right;
-          before_left = before-push out t ra before_left above_left;
-          before_right = before-push out t rb before_right above_right;
-        })
+          let some : (s == 0) ≡ false = ne_eqb s 0 (λ z. omega (arith, z, lt)) in
+          let t : Term = record { symbol = record { 0 = x }; factor = s } in
+          rw some (record {
+            sum = λ y. ap (λ n. n % 2 ^ w) (omega (arith, factor_of-append out (t ∷ []) y)) ∙ sums y;
+            done = canonical-push w out t done new fits lt least;
+            left = left;
+            right = right;
+            before_left = before-push out t ra before_left above_left;
+            before_right = before-push out t rb before_right above_right;
+          })
       | inr z ↦
-        let none : s ≡ 0 = omega arith in
-        let zero_test : (s == 0) ≡ true = eq-eqb s 0 none in
-        rw (zero_test, append-nil out) (record {
-          sum = λ y. ap (λ n. n % 2 ^ w) (drop_zero (x == y) (factor_of out y) s (factor_of ra y) (c * factor_of rb y) none) ∙ sums y;
-          done = done;
-          left = left;
-          right = right;
-          before_left = before_left;
-          before_right = before_right;
-        })
+          let none : s ≡ 0 = omega arith in
+          let zero_test : (s == 0) ≡ true = eq-eqb s 0 none in
+          rw (zero_test, append-nil out) (record {
+            sum = λ y. ap (λ n. n % 2 ^ w) (drop_zero (x == y) (factor_of out y) s (factor_of ra y) (c * factor_of rb y) none) ∙ sums y;
+            done = done;
+            left = left;
+            right = right;
+            before_left = before_left;
+            before_right = before_right;
+          })
     ]
   where
     drop_zero : (here : Bool) (o s l r : ℕ) → s ≡ 0 → o + l + r ≡ o + (if here then s else 0) + l + r
@@ -118,8 +118,8 @@ pub take_both : (w c : ℕ) (a b out ra rb : List Term) (t u : Term) (s : ℕ) �
 take_both w c a b out ra rb t u s m same e =
     let new : Term = record { symbol = t.symbol; factor = s } in
     push w c a b out ra rb t.symbol.0 s m.done m.left.4 m.right.4 (before_same out t new refl (before_head out t ra m.before_left)) (before_tail out t ra m.before_left) (before_tail out u rb m.before_right)
-        m.left.3 (let P : ℕ → Type 0 = λ y. AreAbove y rb in subst P (sym same) m.right.3) m.left.0 (let P : ℕ → Type 0 = λ n. n < 2 ^ w in subst P (sym e) (mod-lt (t.factor + c * u.factor) (pow_pos w)))
-        (λ y. both_sum (2 ^ w) (factor_of out y) t.factor c u.factor s (factor_of ra y) (factor_of rb y) _ (t.symbol.0 == y) e (sums y))
+    m.left.3 (let P : ℕ → Type 0 = λ y. AreAbove y rb in subst P (sym same) m.right.3) m.left.0 (let P : ℕ → Type 0 = λ n. n < 2 ^ w in subst P (sym e) (mod-lt (t.factor + c * u.factor) (pow_pos w)))
+    (λ y. both_sum (2 ^ w) (factor_of out y) t.factor c u.factor s (factor_of ra y) (factor_of rb y) _ (t.symbol.0 == y) e (sums y))
   where
     sums : (y : ℕ) → (factor_of out y + ((if t.symbol.0 == y then t.factor else 0) + factor_of ra y) + c * ((if t.symbol.0 == y then u.factor else 0) + factor_of rb y)) % 2 ^ w ≡ (factor_of a y + c * factor_of b y) % 2 ^ w
     sums y =
@@ -132,8 +132,8 @@ take_right w c a b out ra rb u s m above e =
     let new : Term = record { symbol = u.symbol; factor = s } in
     let e' : s ≡ (0 + c * u.factor) % 2 ^ w = e ∙ ap (λ n. n % 2 ^ w) (omega arith) in
     push w c a b out ra rb u.symbol.0 s m.done m.left m.right.4 (before_same out u new refl (before_head out u rb m.before_right)) m.before_left (before_tail out u rb m.before_right)
-        above m.right.3 m.right.0 (let P : ℕ → Type 0 = λ n. n < 2 ^ w in subst P (sym e) (mod-lt (c * u.factor) (pow_pos w)))
-        (λ y. both_sum (2 ^ w) (factor_of out y) 0 c u.factor s (factor_of ra y) (factor_of rb y) _ (u.symbol.0 == y) e' (ap (λ n. (factor_of out y + (n + factor_of ra y) + c * ((if u.symbol.0 == y then u.factor else 0) + factor_of rb y)) % 2 ^ w) (either (u.symbol.0 == y)) ∙ sums y))
+    above m.right.3 m.right.0 (let P : ℕ → Type 0 = λ n. n < 2 ^ w in subst P (sym e) (mod-lt (c * u.factor) (pow_pos w)))
+    (λ y. both_sum (2 ^ w) (factor_of out y) 0 c u.factor s (factor_of ra y) (factor_of rb y) _ (u.symbol.0 == y) e' (ap (λ n. (factor_of out y + (n + factor_of ra y) + c * ((if u.symbol.0 == y then u.factor else 0) + factor_of rb y)) % 2 ^ w) (either (u.symbol.0 == y)) ∙ sums y))
   where
     either : (here : Bool) → ◌≡◌ {A = ℕ} (if here then 0 else 0) 0
     either true = refl
@@ -234,7 +234,7 @@ minus p m o (suc k) e lt =
 pub subtracted : (w m : ℕ) (a b n : List Term) → m + 1 ≡ 2 ^ w → IsCanonical w b → ((x : ℕ) → factor_of n x ≡ (m * factor_of b x) % 2 ^ w) → terms_of w (λ x. factor_of a x + factor_of n x) ≡ terms_of w (λ x. factor_of a x + (2 ^ w - factor_of b x))
 subtracted w m a b n e h each =
     terms_from-same 0 (2 ^ 32) (λ x. (factor_of a x + factor_of n x) % 2 ^ w) (λ x. (factor_of a x + (2 ^ w - factor_of b x)) % 2 ^ w)
-        (λ x _. ap (λ v. (factor_of a x + v) % 2 ^ w) (each x) ∙ minus (2 ^ w) m (factor_of a x) (factor_of b x) e (factor_of-least w b x h))
+    (λ x _. ap (λ v. (factor_of a x + v) % 2 ^ w) (each x) ∙ minus (2 ^ w) m (factor_of a x) (factor_of b x) e (factor_of-least w b x h))
 
 pub subtracted_number : (p a b : ℕ) → b < p → (a + (p - b % p)) % p ≡ (a + (p - b)) % p
 subtracted_number p a b lt = ap (λ n. (a + (p - n)) % p) (mod-eq_of_lt lt)

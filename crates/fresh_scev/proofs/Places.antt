@@ -2,7 +2,9 @@
 use Rattle.std.proofs.Common.{◌≡◌, ℕ, zero, suc, ◌+◌, ◌*◌, ◌/◌, ◌%◌, ◌^◌, ◌<◌, ◌≤◌, ◌==◌, List, [], ◌∷◌, ◌++◌, length, get_or, slice_get, Option, Some, None, if◌then◌else◌, arith, refl, sym, ap, ◌∙◌, true, false, ◌⊎◌, inl, inr}
 use Rattle.std.proofs.Math.Nat.{div-div-eq-div-mul}
 use Rattle.std.proofs.lemmas.Bool.{cases_Bool, eqb-true, eq-eqb}
-use Rattle.std.proofs.lemmas.Nat.{div-add-mod'}
+use Rattle.std.proofs.lemmas.Nat.{div-add-mod', div-mul-add, mod-mul-add}
+use Rattle.std.proofs.lemmas.Option.{slice_get_past}
+use Rattle.std.proofs.Math.Seq.{get_or-append_seam}
 use Rattle.mlir_ir.specs.Labels.{label_at}
 use Rattle.fresh_scev.specs.declared.facts.Facts.{Facts}
 use Rattle.fresh_scev.specs.Linear.{Linear}
@@ -74,3 +76,71 @@ pub expr_at-new : (facts : Facts) (label : ℕ) (x : Linear) → expr_at (with_i
 expr_at-new facts label x h =
     let p = placed (with_item facts []) label x h in
     place_of facts label x p.0 (sym (place_in_new facts.items (label / 2 ^ 14 % 2 ^ 10) (label % 2 ^ 14)) ∙ p.1)
+
+-- the parts of a label that is made of them
+pub parts_of : (func k i : ℕ) → k < 2 ^ 10 → i < 2 ^ 14 → (label_at func k i / 2 ^ 24 ≡ func) × (label_at func k i / 2 ^ 14 % 2 ^ 10 ≡ k) × (label_at func k i % 2 ^ 14 ≡ i)
+parts_of func k i lo hi =
+    let whole : label_at func k i ≡ (func * 1024 + k) * 16384 + i = omega arith in
+    let item : label_at func k i / 16384 ≡ func * 1024 + k = ap (λ n. n / 16384) whole ∙ div-mul-add (func * 1024 + k) 16384 i hi in
+    (sym (div-div-eq-div-mul (label_at func k i) 16384 1024) ∙ ap (λ n. n / 1024) item ∙ div-mul-add func 1024 k lo,
+    ap (λ n. n % 1024) item ∙ mod-mul-add func 1024 k lo,
+    ap (λ n. n % 16384) whole ∙ mod-mul-add (func * 1024 + k) 16384 i hi)
+
+last_of : (here : List Linear) (e : Linear) → slice_get (here ++ e ∷ []) (length here) ≡ Some e
+last_of [] e = refl
+last_of (y ∷ here) e = last_of here e
+
+-- the next label has no value yet, and then the new one
+pub expr_at-next_none : (facts : Facts) (here : List Linear) → length facts.items < 2 ^ 10 → length here < 2 ^ 14 → expr_at (with_item facts here) (next_label facts here) ≡ None
+expr_at-next_none facts here lo hi =
+    let p = parts_of facts.func (length facts.items) (length here) lo hi in
+    let test : (next_label facts here / 2 ^ 24 == facts.func) ≡ true = eq-eqb (next_label facts here / 2 ^ 24) facts.func p.0 in
+    rw (test, p.1, p.2, get_or-append_seam facts.items here [] []) (slice_get_past here (length here) (omega arith))
+
+pub expr_at-next : (facts : Facts) (here : List Linear) (e : Linear) → length facts.items < 2 ^ 10 → length here < 2 ^ 14 → expr_at (with_item facts (here ++ e ∷ [])) (next_label facts here) ≡ Some e
+expr_at-next facts here e lo hi =
+    let p = parts_of facts.func (length facts.items) (length here) lo hi in
+    let test : (next_label facts here / 2 ^ 24 == facts.func) ≡ true = eq-eqb (next_label facts here / 2 ^ 24) facts.func p.0 in
+    rw (test, p.1, p.2, get_or-append_seam facts.items (here ++ e ∷ []) [] []) (last_of here e)
+
+last_apart : (here : List Linear) (e : Linear) (i : ℕ) → (i ≡ length here → ⊥) → slice_get (here ++ e ∷ []) i ≡ slice_get here i
+last_apart [] e zero apart = absurd (apart refl)
+last_apart [] e (suc i) apart = refl
+last_apart (y ∷ here) e zero apart = refl
+last_apart (y ∷ here) e (suc i) apart = last_apart here e i (λ same. apart (omega (arith, same)))
+
+place_apart : (items : List (List Linear)) (here : List Linear) (e : Linear) (k i : ℕ) → (k ≡ length items → i ≡ length here → ⊥) → slice_get (get_or (items ++ (here ++ e ∷ []) ∷ []) k []) i ≡ slice_get (get_or (items ++ here ∷ []) k []) i
+place_apart [] here e zero i apart = last_apart here e i (apart refl)
+place_apart [] here e (suc k) i apart = refl
+place_apart (y ∷ items) here e zero i apart = refl
+place_apart (y ∷ items) here e (suc k) i apart = place_apart items here e k i (λ same. apart (omega (arith, same)))
+
+-- the new value changes no other
+pub expr_at-other : (facts : Facts) (here : List Linear) (e : Linear) (label : ℕ) → (label ≡ next_label facts here → ⊥) → expr_at (with_item facts (here ++ e ∷ [])) label ≡ expr_at (with_item facts here) label
+expr_at-other facts here e label apart =
+    elim (cases_Bool (label / 2 ^ 24 == facts.func)) [
+      | inl test ↦
+        let func = eqb-true (label / 2 ^ 24) facts.func test in
+        rw test (place_apart facts.items here e (label / 2 ^ 14 % 2 ^ 10) (label % 2 ^ 14) (λ k i. apart (label_parts label facts.func (length facts.items) (length here) func k i)))
+      | inr test ↦ rw test refl
+    ]
+
+-- an item without values changes nothing
+pub expr_at-empty : (facts : Facts) (label : ℕ) → expr_at (with_item facts []) label ≡ expr_at facts label
+expr_at-empty facts label =
+    elim (cases_Bool (label / 2 ^ 24 == facts.func)) [
+      | inl test ↦ rw test (place_in_new facts.items (label / 2 ^ 14 % 2 ^ 10) (label % 2 ^ 14))
+      | inr test ↦ rw test refl
+    ]
+
+-- where there is no item but an empty one, there is no value
+pub expr_at-nothing : (func label : ℕ) → expr_at (record { func = func; items = [] ∷ [] }) label ≡ None
+expr_at-nothing func label =
+    elim (cases_Bool (label / 2 ^ 24 == func)) [
+      | inl test ↦ rw test (nothing (label / 2 ^ 14 % 2 ^ 10) (label % 2 ^ 14))
+      | inr test ↦ rw test refl
+    ]
+  where
+    nothing : (k i : ℕ) → ◌≡◌ {A = Option Linear} (slice_get (get_or ([] ∷ []) k []) i) None
+    nothing zero i = refl
+    nothing (suc k) i = refl

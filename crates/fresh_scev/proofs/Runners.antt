@@ -29,9 +29,9 @@ holds_more env facts here e known given = record {
       elim (found facts here e x label h) [
         | inl before ↦ known.at label x before
         | inr last ↦
-          let P : ℕ → Type 0 = λ l. IsValue env l x in
-          let Q : Linear → Type 0 = λ y. IsValue env (next_label facts here) y in
-          subst P (sym last.1) (subst Q (sym last.0) given)
+            let P : ℕ → Type 0 = λ l. IsValue env l x in
+            let Q : Linear → Type 0 = λ y. IsValue env (next_label facts here) y in
+            subst P (sym last.1) (subst Q (sym last.0) given)
       ];
 }
 
@@ -45,11 +45,11 @@ holds_results env facts kind here (ty ∷ tys) f k i known h =
     let next : next_label facts here + 1 ≡ next_label facts (with_result facts kind here ty) = omega (arith, longer) in
     let P : ℕ → Type 0 = λ label. AreComputed env label kind tys in
     holds_results env facts kind (with_result facts kind here ty) tys f k (omega (arith, longer))
-        (holds_more env facts here (kind_expr (with_item facts here) own kind) known
-            (is_kind env (with_item facts here) (next_label facts here) own kind known (is_symbol env (bits_of ty) (next_label facts here) fits) h.0))
-        (subst P next h.1)
+    (holds_more env facts here (kind_expr (with_item facts here) own kind) known
+    (is_kind env (with_item facts here) (next_label facts here) own kind known (is_symbol env (bits_of ty) (next_label facts here) fits) h.0))
+    (subst P next h.1)
 
-no_labels : (kind : Kind) → holds_no_region kind ≡ true → kind_labels kind ≡ 0
+pub no_labels : (kind : Kind) → holds_no_region kind ≡ true → kind_labels kind ≡ 0
 no_labels (Const v) h = refl
 no_labels (Bin op flags a b) h = refl
 no_labels (Cast op flags a) h = refl
@@ -71,8 +71,8 @@ holds_ops env facts here label (op ∷ ops) f k i at straight known h =
     let next : label + op_labels op ≡ next_label facts (with_results facts op.kind here op.results) = omega (arith, none, at, longer) in
     let P : ℕ → Type 0 = λ label. AreComputed env label op.kind op.results in
     holds_ops env facts (with_results facts op.kind here op.results) (label + op_labels op) ops f k (omega (arith, none, longer)) next both.1
-        (holds_results env facts op.kind here op.results f k (omega (arith, none)) known (subst P begin h.0))
-        h.1
+    (holds_results env facts op.kind here op.results f k (omega (arith, none)) known (subst P begin h.0))
+    h.1
 
 holds_items : (env : ℕ → ℕ) (facts : Facts) (k : ℕ) (items : List Item) → facts.func < 2 ^ 8 → k ≡ length facts.items → length facts.items + length items ≤ 2 ^ 10 → HaveLabels items → list_all item_holds_no_region items ≡ true →
     Holds env facts → RunsItems env facts.func k items → Holds env (with_items facts items)
@@ -84,8 +84,8 @@ holds_items env facts k (item ∷ items) f at fits labels straight known h =
     let begin : label_at facts.func k 0 ≡ next_label facts [] = omega (arith, at) in
     let longer : length (with_item facts here).items ≡ length facts.items + 1 = length_push facts.items here in
     holds_items env (with_item facts here) (k + 1) items f (omega (arith, at, longer)) (omega (arith, longer)) labels.1 both.1
-        (holds_ops env facts [] (label_at facts.func k 0) item.ops f (omega arith) (omega (arith, labels.0)) begin both.0 fresh_item h.0)
-        h.1
+    (holds_ops env facts [] (label_at facts.func k 0) item.ops f (omega arith) (omega (arith, labels.0)) begin both.0 fresh_item h.0)
+    h.1
 
 -- an argument is the symbol of its label
 arg_at : (label : ℕ) (args : List Arg) (i : ℕ) (e : Linear) → slice_get (arg_exprs label args) i ≡ Some e → (w : ℕ) × (e ≡ symbol_expr w (label + i)) × (i < length args)
@@ -124,8 +124,8 @@ pub runs : (env : ℕ → ℕ) (f : Func) → f.index < 2 ^ 8 → IsWellFormed f
 runs env f least well straight run label =
     let within = limits f well in
     let known : Holds env (facts_of f) =
-        holds_items env (record { func = f.index; items = arg_exprs (label_at f.index 0 0) f.args ∷ [] }) 1 (items_of f.body) least refl (omega (arith, within.items)) within.labels straight
-            (args_hold env f.index f.args least (omega (arith, within.args)))
-            run
+    holds_items env (record { func = f.index; items = arg_exprs (label_at f.index 0 0) f.args ∷ [] }) 1 (items_of f.body) least refl (omega (arith, within.items)) within.labels straight
+    (args_hold env f.index f.args least (omega (arith, within.args)))
+    run
     in
     if_some (expr_at (facts_of f) label) (λ e. value env e ≡ env label % 2 ^ e.w) (λ e h. (known.at label e h).0)

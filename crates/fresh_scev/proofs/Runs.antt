@@ -43,33 +43,36 @@ at_width p q n m e h = h ∙ ap (λ k. m % k) e
 
 is_sum : (env : ℕ → ℕ) (la lb l : ℕ) (a b : Linear) → a.w ≡ b.w → IsValue env la a → IsValue env lb b → env l ≡ (env la + env lb) % 2 ^ a.w → IsValue env l (sum a b)
 is_sum env la lb l a b e ga gb h =
-    let vb : value env b ≡ env lb % 2 ^ a.w = at_width (2 ^ b.w) (2 ^ a.w) (value env b) (env lb) (ap (λ w. 2 ^ w) (sym e)) gb.0 in
-    (narrow a.w ((a.number + b.number) % 2 ^ a.w + total env (sum a b).terms) (env l)
-    (λ wide.
-    value_sum env a b (ga.1 wide) (of_width b a.w (sym e) gb.1 wide) e
-    ∙ ap (λ n. (n + value env b) % 2 ^ a.w) ga.0
-    ∙ ap (λ n. (env la % 2 ^ a.w + n) % 2 ^ a.w) vb
-    ∙ sym (add-mod (env la) (env lb) (2 ^ a.w))
-    ∙ sym (ap (λ n. n % 2 ^ a.w) h ∙ mod-mod (env la + env lb) (2 ^ a.w))),
-    λ _. (mod-lt (a.number + b.number) (pow_pos a.w), canonical_of a.w (λ x. factor_of a.terms x + factor_of b.terms x)))
+    let vb : value env b ≡ env lb % 2 ^ a.w = at_width (2 ^ b.w) (2 ^ a.w) (value env b) (env lb) (ap (λ w. 2 ^ w) (sym e)) gb.0 in (
+      narrow a.w ((a.number + b.number) % 2 ^ a.w + total env (sum a b).terms) (env l)
+          (λ wide.
+          value_sum env a b (ga.1 wide) (of_width b a.w (sym e) gb.1 wide) e
+          ∙ ap (λ n. (n + value env b) % 2 ^ a.w) ga.0
+          ∙ ap (λ n. (env la % 2 ^ a.w + n) % 2 ^ a.w) vb
+          ∙ sym (add-mod (env la) (env lb) (2 ^ a.w))
+          ∙ sym (ap (λ n. n % 2 ^ a.w) h ∙ mod-mod (env la + env lb) (2 ^ a.w))),
+      λ _. (mod-lt (a.number + b.number) (pow_pos a.w), canonical_of a.w (λ x. factor_of a.terms x + factor_of b.terms x)),
+    )
 
 is_difference : (env : ℕ → ℕ) (la lb l : ℕ) (a b : Linear) → a.w ≡ b.w → IsValue env la a → IsValue env lb b → env l ≡ (env la + (2 ^ a.w - env lb % 2 ^ a.w)) % 2 ^ a.w → IsValue env l (difference a b)
 is_difference env la lb l a b e ga gb h =
-    let vb : value env b ≡ env lb % 2 ^ a.w = at_width (2 ^ b.w) (2 ^ a.w) (value env b) (env lb) (ap (λ w. 2 ^ w) (sym e)) gb.0 in
-    (narrow a.w ((a.number + (2 ^ a.w - b.number)) % 2 ^ a.w + total env (difference a b).terms) (env l)
-    (λ wide.
-    value_difference env a b (ga.1 wide) (of_width b a.w (sym e) gb.1 wide) e
-    ∙ ap (λ n. (n + (2 ^ a.w - value env b)) % 2 ^ a.w) ga.0
-    ∙ ap (λ n. (env la % 2 ^ a.w + (2 ^ a.w - n)) % 2 ^ a.w) vb
-    ∙ same_add (2 ^ a.w) (env la % 2 ^ a.w) (2 ^ a.w - env lb % 2 ^ a.w) (env la) (2 ^ a.w - env lb % 2 ^ a.w) (same_mod (2 ^ a.w) (env la)) refl
-    ∙ sym (ap (λ n. n % 2 ^ a.w) h ∙ mod-mod (env la + (2 ^ a.w - env lb % 2 ^ a.w)) (2 ^ a.w))),
-    λ _. (mod-lt (a.number + (2 ^ a.w - b.number)) (pow_pos a.w), canonical_of a.w (λ x. factor_of a.terms x + (2 ^ a.w - factor_of b.terms x))))
+    let vb : value env b ≡ env lb % 2 ^ a.w = at_width (2 ^ b.w) (2 ^ a.w) (value env b) (env lb) (ap (λ w. 2 ^ w) (sym e)) gb.0 in (
+      narrow a.w ((a.number + (2 ^ a.w - b.number)) % 2 ^ a.w + total env (difference a b).terms) (env l)
+          (λ wide.
+          value_difference env a b (ga.1 wide) (of_width b a.w (sym e) gb.1 wide) e
+          ∙ ap (λ n. (n + (2 ^ a.w - value env b)) % 2 ^ a.w) ga.0
+          ∙ ap (λ n. (env la % 2 ^ a.w + (2 ^ a.w - n)) % 2 ^ a.w) vb
+          ∙ same_add (2 ^ a.w) (env la % 2 ^ a.w) (2 ^ a.w - env lb % 2 ^ a.w) (env la) (2 ^ a.w - env lb % 2 ^ a.w) (same_mod (2 ^ a.w) (env la)) refl
+          ∙ sym (ap (λ n. n % 2 ^ a.w) h ∙ mod-mod (env la + (2 ^ a.w - env lb % 2 ^ a.w)) (2 ^ a.w))),
+      λ _. (mod-lt (a.number + (2 ^ a.w - b.number)) (pow_pos a.w), canonical_of a.w (λ x. factor_of a.terms x + (2 ^ a.w - factor_of b.terms x))),
+    )
 
 is_multiple : (env : ℕ → ℕ) (c la l : ℕ) (a : Linear) → IsValue env la a → Same (2 ^ a.w) (env l) (c * env la) → IsValue env l (multiple c a)
-is_multiple env c la l a ga h =
-    (narrow a.w ((c * a.number) % 2 ^ a.w + total env (multiple c a).terms) (env l)
-    (λ wide. value_multiple env c a (ga.1 wide) ∙ ap (λ n. (c * n) % 2 ^ a.w) ga.0 ∙ mul-mod_second c (env la) (2 ^ a.w) ∙ sym h),
-    λ _. (mod-lt (c * a.number) (pow_pos a.w), canonical_of a.w (λ x. c * factor_of a.terms x)))
+is_multiple env c la l a ga h = (
+  narrow a.w ((c * a.number) % 2 ^ a.w + total env (multiple c a).terms) (env l)
+      (λ wide. value_multiple env c a (ga.1 wide) ∙ ap (λ n. (c * n) % 2 ^ a.w) ga.0 ∙ mul-mod_second c (env la) (2 ^ a.w) ∙ sym h),
+  λ _. (mod-lt (c * a.number) (pow_pos a.w), canonical_of a.w (λ x. c * factor_of a.terms x)),
+)
 
 no_terms : (ts : List Term) → is_number ts ≡ true → ts ≡ []
 no_terms [] e = refl
@@ -86,15 +89,15 @@ is_product env la lb l own a b e ga gb given h =
     let whole : Same (2 ^ a.w) (env l) (env la * env lb) = ap (λ n. n % 2 ^ a.w) h ∙ mod-mod (env la * env lb) (2 ^ a.w) in
     elim (cases_Bool (is_number a.terms)) [
       | inl left ↦
-        let P : ℕ → Type 0 = λ w. Same (2 ^ w) (env l) (a.number * env lb) in
-        let times : Same (2 ^ a.w) (env l) (a.number * env lb) = whole ∙ sym (same_times (2 ^ a.w) a.number (env la) (env lb) (lone_number env la a left ga)) in
-        rw left (is_multiple env a.number lb l b gb (subst P e times))
+          let P : ℕ → Type 0 = λ w. Same (2 ^ w) (env l) (a.number * env lb) in
+          let times : Same (2 ^ a.w) (env l) (a.number * env lb) = whole ∙ sym (same_times (2 ^ a.w) a.number (env la) (env lb) (lone_number env la a left ga)) in
+          rw left (is_multiple env a.number lb l b gb (subst P e times))
       | inr left ↦ elim (cases_Bool (is_number b.terms)) [
         | inl right ↦
-          let P : ℕ → Type 0 = λ w. Same (2 ^ w) b.number (env lb) in
-          let lone : Same (2 ^ a.w) b.number (env lb) = subst P (sym e) (lone_number env lb b right gb) in
-          let times : Same (2 ^ a.w) (env l) (b.number * env la) = whole ∙ ap (λ n. n % 2 ^ a.w) (mul_comm (env la) (env lb)) ∙ sym (same_times (2 ^ a.w) b.number (env lb) (env la) lone) in
-          rw (left, right) (is_multiple env b.number la l a ga times)
+            let P : ℕ → Type 0 = λ w. Same (2 ^ w) b.number (env lb) in
+            let lone : Same (2 ^ a.w) b.number (env lb) = subst P (sym e) (lone_number env lb b right gb) in
+            let times : Same (2 ^ a.w) (env l) (b.number * env la) = whole ∙ ap (λ n. n % 2 ^ a.w) (mul_comm (env la) (env lb)) ∙ sym (same_times (2 ^ a.w) b.number (env lb) (env la) lone) in
+            rw (left, right) (is_multiple env b.number la l a ga times)
         | inr right ↦ rw (left, right) given
       ]
     ]
@@ -128,8 +131,8 @@ is_bin env la lb l own op (Some a) None ka kb given h = given
 is_bin env la lb l own op (Some a) (Some b) ka kb given h =
     elim (cases_Bool (a.w == own.w && b.w == own.w)) [
       | inl both ↦
-        let widths = and_parts (a.w == own.w) (b.w == own.w) both in
-        rw both (is_op env la lb l own a b op (eqb-true a.w own.w widths.0) (eqb-true b.w own.w widths.1) (ka a refl) (kb b refl) given h)
+          let widths = and_parts (a.w == own.w) (b.w == own.w) both in
+          rw both (is_op env la lb l own a b op (eqb-true a.w own.w widths.0) (eqb-true b.w own.w widths.1) (ka a refl) (kb b refl) given h)
       | inr other ↦ rw other given
     ]
 

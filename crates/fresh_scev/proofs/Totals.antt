@@ -110,8 +110,8 @@ value_difference env a b h k e = by_width
     back : Same (2 ^ a.w) (total env (terms_of a.w (λ x. factor_of a.terms x + (2 ^ a.w - factor_of b.terms x))) + total env b.terms) (total env a.terms)
     back =
         same_add (2 ^ a.w) (total env (terms_of a.w (λ x. factor_of a.terms x + (2 ^ a.w - factor_of b.terms x)))) (total env b.terms) (sigma 0 (2 ^ 32) (λ x. (factor_of a.terms x + (2 ^ a.w - factor_of b.terms x)) * env x)) (sigma 0 (2 ^ 32) (λ x. factor_of b.terms x * env x))
-            (total-of env a.w (λ x. factor_of a.terms x + (2 ^ a.w - factor_of b.terms x)))
-            (ap (λ n. n % 2 ^ a.w) (total-own env b.w b.terms k.1))
+        (total-of env a.w (λ x. factor_of a.terms x + (2 ^ a.w - factor_of b.terms x)))
+        (ap (λ n. n % 2 ^ a.w) (total-own env b.w b.terms k.1))
         ∙ ap (λ n. n % 2 ^ a.w) (sym (sigma-add 0 (2 ^ 32) (λ x. (factor_of a.terms x + (2 ^ a.w - factor_of b.terms x)) * env x) (λ x. factor_of b.terms x * env x)))
         ∙ sigma-same (2 ^ a.w) 0 (2 ^ 32) (λ x. (factor_of a.terms x + (2 ^ a.w - factor_of b.terms x)) * env x + factor_of b.terms x * env x) (λ x. factor_of a.terms x * env x) (λ x. each x)
         ∙ ap (λ n. n % 2 ^ a.w) (sym (total-own env a.w a.terms h.1))
@@ -131,7 +131,7 @@ value_difference env a b h k e = by_width
         let above : 0 < 2 ^ a.w = pow_pos a.w in
         let least : b.number < 2 ^ a.w = (let Q : ℕ → Type 0 = λ w. b.number < 2 ^ w in subst Q (sym e) h_number) in
         subst P e (less_from (2 ^ a.w) (value env (difference a b)) (value env a) ((b.number + total env b.terms) % 2 ^ a.w) (mod-lt _ above) (mod-lt (b.number + total env b.terms) above)
-            (joined (2 ^ a.w) a.number b.number (total env (terms_of a.w (λ x. factor_of a.terms x + (2 ^ a.w - factor_of b.terms x)))) (total env a.terms) (total env b.terms) least back))
+        (joined (2 ^ a.w) a.number b.number (total env (terms_of a.w (λ x. factor_of a.terms x + (2 ^ a.w - factor_of b.terms x)))) (total env a.terms) (total env b.terms) least back))
       where
         h_number : b.number < 2 ^ b.w
         h_number = k.0
@@ -139,8 +139,8 @@ value_difference env a b h k e = by_width
         joined : (p an bn d ta tb : ℕ) → bn < p → Same p (d + tb) ta → Same p (((an + (p - bn)) % p + d) % p + (bn + tb) % p) ((an + ta) % p)
         joined p an bn d ta tb lt same =
             same_add p (((an + (p - bn)) % p + d) % p) ((bn + tb) % p) (an + (p - bn) + d) (bn + tb)
-                (same_mod p ((an + (p - bn)) % p + d) ∙ same_add p ((an + (p - bn)) % p) d (an + (p - bn)) d (same_mod p (an + (p - bn))) refl)
-                (same_mod p (bn + tb))
+            (same_mod p ((an + (p - bn)) % p + d) ∙ same_add p ((an + (p - bn)) % p) d (an + (p - bn)) d (same_mod p (an + (p - bn))) refl)
+            (same_mod p (bn + tb))
             ∙ (let e : an + (p - bn) + d + (bn + tb) ≡ an + (d + tb) + p = omega arith in ap (λ n. n % p) e)
             ∙ add-mod_right (an + (d + tb)) p
             ∙ same_add p an (d + tb) an ta refl same
@@ -174,8 +174,8 @@ canonical_from w first zero last f e le least = tt
 canonical_from w first (suc count) last f e le least =
     elim (cases_lt 0 (f first)) [
       | inl some ↦
-        let test : (f first == 0) ≡ false = ne_eqb (f first) 0 (λ z. omega (arith, z, some)) in
-        rw test (omega arith, some, least first, above_from first (first + 1) count f (omega arith), canonical_from w (first + 1) count last f (omega arith) le least)
+          let test : (f first == 0) ≡ false = ne_eqb (f first) 0 (λ z. omega (arith, z, some)) in
+          rw test (omega arith, some, least first, above_from first (first + 1) count f (omega arith), canonical_from w (first + 1) count last f (omega arith) le least)
       | inr none ↦ let test : (f first == 0) ≡ true = eq-eqb (f first) 0 (omega arith) in rw test (canonical_from w (first + 1) count last f (omega arith) le least)
     ]
 
@@ -189,8 +189,8 @@ made w number terms = record { w = w; number = number; terms = terms }
 pub unique_form : (a b : Linear) → IsReduced a → IsReduced b → a.w ≡ b.w → a.number ≡ b.number → ((x : ℕ) → factor_of a.terms x ≡ factor_of b.terms x) → a ≡ b
 unique_form a b h k e n same =
     let terms : a.terms ≡ b.terms =
-        sym (from_own a.w 0 (2 ^ 32) (2 ^ 32) a.terms (omega arith) h.1 (all_within a.w a.terms h.1))
-        ∙ terms_from-same 0 (2 ^ 32) (factor_of a.terms) (factor_of b.terms) (λ x _. same x)
-        ∙ from_own b.w 0 (2 ^ 32) (2 ^ 32) b.terms (omega arith) k.1 (all_within b.w b.terms k.1)
+    sym (from_own a.w 0 (2 ^ 32) (2 ^ 32) a.terms (omega arith) h.1 (all_within a.w a.terms h.1))
+    ∙ terms_from-same 0 (2 ^ 32) (factor_of a.terms) (factor_of b.terms) (λ x _. same x)
+    ∙ from_own b.w 0 (2 ^ 32) (2 ^ 32) b.terms (omega arith) k.1 (all_within b.w b.terms k.1)
     in
     ap (λ w. made w a.number a.terms) e ∙ ap (λ v. made b.w v a.terms) n ∙ ap (λ ts. made b.w b.number ts) terms

@@ -1,8 +1,9 @@
 ghost use Rattle.std.specs.Prelude.{◌≡◌, ◌+◌, ◌<◌, ◌≤◌, ◌^◌, ◌%◌, ℕ, IfOk, IfSome, IsTrue, OnOk, [], length};
-ghost use Rattle.std.specs.Option.{option_copied};
+ghost use Rattle.std.specs.Option.{option_copied, option_map};
 ghost use Rattle.mlir_ir.specs.Labels.{ops_labels, label_at};
+ghost use Rattle.mlir_ir.specs.Values.{func_values, type_at};
 ghost use Rattle.mlir_ir.specs.Words.{bits_of};
-ghost use Rattle.fresh_scev.specs.Fresh.{expr_at, with_item} ;
+ghost use Rattle.fresh_scev.specs.Fresh.{expr_at, with_item};
 ghost use Rattle.fresh_scev.specs.Fresh as fresh;
 ghost use Rattle.fresh_scev.specs.Run.{IsRun};
 ghost use Rattle.fresh_scev.specs.Values.{value};
@@ -59,7 +60,13 @@ fn op_expr(alloc: Global, op: BinOp, own: Expr, a: &Expr, b: &Expr) -> Result<Ex
 }
 
 /// An operation on two operands, which have the width of the result.
-fn bin_expr(alloc: Global, op: BinOp, own: Expr, a: Option<&Expr>, b: Option<&Expr>) -> Result<Expr, AllocError>
+fn bin_expr(
+    alloc: Global,
+    op: BinOp,
+    own: Expr,
+    a: Option<&Expr>,
+    b: Option<&Expr>,
+) -> Result<Expr, AllocError>
     ensures { IfOk result (λ e. e ≡ fresh.bin_expr op own (option_copied a.entry) (option_copied b.entry)) }
 {
     match (a, b) {
@@ -69,24 +76,44 @@ fn bin_expr(alloc: Global, op: BinOp, own: Expr, a: Option<&Expr>, b: Option<&Ex
 }
 
 /// A result of an operation, whose own symbol is given.
-fn kind_expr(alloc: Global, facts: &Facts, here: &Items<Expr>, own: Expr, kind: &Kind) -> Result<Expr, AllocError>
+fn kind_expr(
+    alloc: Global,
+    facts: &Facts,
+    here: &Items<Expr>,
+    own: Expr,
+    kind: &Kind,
+) -> Result<Expr, AllocError>
     ensures { IfOk result (λ e. e ≡ fresh.kind_expr (with_item facts.now here.now) own kind.now) }
 {
     match kind {
         Kind::Const(v) => Ok(Expr::number(alloc, own.w, *v)),
-        Kind::Bin(op, _, a, b) => bin_expr(alloc, *op, own, find(facts, here, *a), find(facts, here, *b)),
+        Kind::Bin(op, _, a, b) => bin_expr(
+            alloc,
+            *op,
+            own,
+            find(facts, here, *a),
+            find(facts, here, *b),
+        ),
         _ => Ok(own),
     }
 }
 
 /// Adds the results of an operation.
-fn push_results(alloc: Global, facts: &Facts, here: &mut Items<Expr>, kind: &Kind, results: &[IrType]) -> Result<(), AllocError>
+fn push_results(
+    alloc: Global,
+    facts: &Facts,
+    here: &mut Items<Expr>,
+    kind: &Kind,
+    results: &[IrType],
+) -> Result<(), AllocError>
     requires items { length facts.now.items < 2 ^ 10 }
     requires labels { length here.old + length results.now ≤ 2 ^ 14 }
     ensures { OnOk result (here.new ≡ fresh.with_results facts.now kind.now here.old results.now) }
 {
     for ty in results {
-        let label = facts.func as u32 * (1 << 24) + facts.items.len() as u32 * (1 << 14) + here.len() as u32;
+        let label = facts.func as u32 * (1 << 24)
+            + facts.items.len() as u32 * (1 << 14)
+            + here.len() as u32;
         let own = Expr::symbol(alloc, width_of(*ty), Label(label))?;
         let expr = kind_expr(alloc, facts, here, own, kind)?;
         here.push(expr)?;
@@ -141,13 +168,16 @@ pub fn analyse(alloc: Global, f: &Func) -> Result<Facts, AllocError>
     requires well_formed { IsWellFormed f.now }
     requires straight_line { IsTrue (is_straight_line f.now) }
     ensures facts { IfOk result (λ facts. facts ≡ fresh.facts_of f.now) }
+    ensures known { IfOk result (λ facts. (label : ℕ) → option_map (λ e. e.w) (expr_at facts label) ≡ option_map bits_of (type_at (func_values f.now) label)) }
     ensures values { IfOk result (λ facts. (env : ℕ → ℕ) → IsRun env f.now → (label : ℕ) → IfSome (expr_at facts label) (λ e. value env e ≡ env label % 2 ^ e.w)) }
 {
     let mut facts = Facts {
         func: f.index,
         items: Items::new(alloc),
     };
-    facts.items.push(arg_exprs(alloc, f.index, f.args.as_slice())?)?;
+    facts
+        .items
+        .push(arg_exprs(alloc, f.index, f.args.as_slice())?)?;
     if let Some(body) = &f.body {
         push_items(alloc, &mut facts, body.items.as_slice())?;
     }

@@ -52,7 +52,10 @@ impl Expr {
         // A width has at least 1 bit, so 1 is a number of it.
         let _bits = w.bits();
         let mut terms = Vec::new(alloc);
-        terms.push(Term { symbol: Label(symbol.0), factor: 1 })?;
+        terms.push(Term {
+            symbol: Label(symbol.0),
+            factor: 1,
+        })?;
         Ok(Expr {
             w,
             number: 0,

@@ -12,5 +12,4 @@ pub fn rules_keep_values()
     ensures difference { (env : ℕ → ℕ) (a b : Linear) → IsReduced a → IsReduced b → a.w ≡ b.w → value env (difference a b) ≡ (value env a + (2 ^ a.w - value env b)) % 2 ^ a.w }
     ensures multiple { (env : ℕ → ℕ) (c : ℕ) (a : Linear) → IsReduced a → value env (multiple c a) ≡ (c * value env a) % 2 ^ a.w }
     ensures unique { (a b : Linear) → IsReduced a → IsReduced b → a.w ≡ b.w → a.number ≡ b.number → ((x : ℕ) → factor_of a.terms x ≡ factor_of b.terms x) → a ≡ b }
-{
-}
+{}

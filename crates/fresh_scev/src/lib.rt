@@ -16,3 +16,6 @@ pub use expr::{Expr, Term};
 pub use facts::Facts;
 pub use laws::rules_keep_values;
 pub use straight::is_straight_line;
+
+#[cfg(test)]
+mod tests;

@@ -12,7 +12,10 @@ fn holds_no_region(kind: &Kind) -> bool
 fn item_holds_no_region(item: &Item) -> bool
     ensures { result ≡ straight.item_holds_no_region item.now }
 {
-    item.ops.as_slice().iter().all(|op| holds_no_region(&op.kind))
+    item.ops
+        .as_slice()
+        .iter()
+        .all(|op| holds_no_region(&op.kind))
 }
 
 /// Whether no operation of the function holds a region.
@@ -20,7 +23,11 @@ pub fn is_straight_line(f: &Func) -> bool
     ensures { result ≡ straight.is_straight_line f.now }
 {
     match &f.body {
-        Some(body) => body.items.as_slice().iter().all(|item| item_holds_no_region(item)),
+        Some(body) => body
+            .items
+            .as_slice()
+            .iter()
+            .all(|item| item_holds_no_region(item)),
         None => true,
     }
 }

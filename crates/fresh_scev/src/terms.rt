@@ -48,7 +48,12 @@ pub fn sum_terms(alloc: Global, w: Width, a: &[Term], b: &[Term]) -> Result<Vec<
 
 #[tactic(auto, using(crate::proofs::Merge::begin))]
 /// The terms of `c` times an expression.
-pub fn multiple_terms(alloc: Global, w: Width, c: u64, terms: &[Term]) -> Result<Vec<Term>, AllocError>
+pub fn multiple_terms(
+    alloc: Global,
+    w: Width,
+    c: u64,
+    terms: &[Term],
+) -> Result<Vec<Term>, AllocError>
     requires { IsCanonical w terms.now }
     ensures terms { IfOk result (λ out. out.items ≡ terms_of w (λ x. c * factor_of terms.now x)) }
     ensures factors { IfOk result (λ out. (x : ℕ) → factor_of out.items x ≡ (c * factor_of terms.now x) % 2 ^ w) }
@@ -62,7 +67,12 @@ pub fn multiple_terms(alloc: Global, w: Width, c: u64, terms: &[Term]) -> Result
 }
 
 /// The terms of the difference of two expressions of one width.
-pub fn difference_terms(alloc: Global, w: Width, a: &[Term], b: &[Term]) -> Result<Vec<Term>, AllocError>
+pub fn difference_terms(
+    alloc: Global,
+    w: Width,
+    a: &[Term],
+    b: &[Term],
+) -> Result<Vec<Term>, AllocError>
     requires a_canonical { IsCanonical w a.now }
     requires b_canonical { IsCanonical w b.now }
     ensures terms { IfOk result (λ out. out.items ≡ terms_of w (λ x. factor_of a.now x + (2 ^ w - factor_of b.now x))) }
