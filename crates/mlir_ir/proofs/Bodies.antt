@@ -57,7 +57,7 @@ module _ (func : ℕ) (scope : List Value) (items : List Item) (k : ℕ) (item :
   pub next_item : (before after : Position) → after.last ≡ (past_ops item.ops (at_item func (k + 1) before)).last → after.ops ≡ (past_ops item.ops (at_item func (k + 1) before)).ops
       → first (items_breaks func (k + 1) (scope ++ items_results func 1 (take k items)) before (drop k items))
       ≡ option_or (first (ops_breaks (scope ++ items_results func 1 (take k items)) (in_item (k + 1) item) (at_item func (k + 1) before) item.ops))
-        (first (items_breaks func (k + 1 + 1) (scope ++ items_results func 1 (take (k + 1) items)) after (drop (k + 1) items)))
+      (first (items_breaks func (k + 1 + 1) (scope ++ items_results func 1 (take (k + 1) items)) after (drop (k + 1) items)))
   next_item before after m n =
       rw (rest_of, grown, breaks_alike func (k + 1 + 1) (scope ++ items_results func 1 (take k items) ++ results_of (label_at func (k + 1) 0) item.ops) after (past_ops item.ops (at_item func (k + 1) before)) (drop (k + 1) items) m n)
       (first_append (ops_breaks (scope ++ items_results func 1 (take k items)) (in_item (k + 1) item) (at_item func (k + 1) before) item.ops) _)
@@ -66,7 +66,7 @@ module _ (func : ℕ) (scope : List Value) (items : List Item) (k : ℕ) (item :
   pub item_first : (before : Position)
       → first (items_breaks func (k + 1) (scope ++ items_results func 1 (take k items)) before (drop k items))
       ≡ option_or (first (ops_breaks (scope ++ items_results func 1 (take k items)) (in_item (k + 1) item) (at_item func (k + 1) before) item.ops))
-        (first (items_breaks func (k + 1 + 1) (scope ++ items_results func 1 (take (k + 1) items)) (past_ops item.ops (at_item func (k + 1) before)) (drop (k + 1) items)))
+      (first (items_breaks func (k + 1 + 1) (scope ++ items_results func 1 (take (k + 1) items)) (past_ops item.ops (at_item func (k + 1) before)) (drop (k + 1) items)))
   item_first before = next_item before (past_ops item.ops (at_item func (k + 1) before)) refl refl
 
   pub item_last : (before after : Position) → after.last ≡ (past_ops item.ops (at_item func (k + 1) before)).last → after.ops ≡ (past_ops item.ops (at_item func (k + 1) before)).ops
@@ -79,7 +79,7 @@ pub body_broken : (f : Func) (body : Body) (at : Position) (e : Shape) → at �
     → first (items_breaks f.index 1 (arg_values (label_at f.index 0 0) f.args) at body.items) ≡ Some e → first (body_breaks f (Some body)) ≡ Some e
 body_broken f body at e is found =
     let begun : first (items_breaks f.index 1 (arg_values (label_at f.index 0 0) f.args) (past_args f.args (func_begin f)) body.items) ≡ Some e =
-        ap (λ (p : Position). first (items_breaks f.index 1 (arg_values (label_at f.index 0 0) f.args) p body.items)) (sym is) ∙ found in
+    ap (λ (p : Position). first (items_breaks f.index 1 (arg_values (label_at f.index 0 0) f.args) p body.items)) (sym is) ∙ found in
     first_append (items_breaks f.index 1 (arg_values (label_at f.index 0 0) f.args) (past_args f.args (func_begin f)) body.items) _ ∙ rw begun refl
 
 -- no break of the items, so that of the return
@@ -88,7 +88,7 @@ pub body_ended : (f : Func) (body : Body) (at : Position) (last : ℕ) (x : Opti
     → first (breaks_at last (return_rules (outer_values f body.items) f.results (length body.items) body.ret)) ≡ x → first (body_breaks f (Some body)) ≡ x
 body_ended f body at last x is none ends found =
     let begun : first (items_breaks f.index 1 (arg_values (label_at f.index 0 0) f.args) (past_args f.args (func_begin f)) body.items) ≡ None =
-        ap (λ (p : Position). first (items_breaks f.index 1 (arg_values (label_at f.index 0 0) f.args) p body.items)) (sym is) ∙ none in
+    ap (λ (p : Position). first (items_breaks f.index 1 (arg_values (label_at f.index 0 0) f.args) p body.items)) (sym is) ∙ none in
     let end : (past_items f.index 1 body.items (past_args f.args (func_begin f))).last ≡ last = sym (ends ∙ ap (λ (p : Position). (past_items f.index 1 body.items p).last) is) in
     first_append (items_breaks f.index 1 (arg_values (label_at f.index 0 0) f.args) (past_args f.args (func_begin f)) body.items) _
     ∙ rw begun (ap (λ n. first (breaks_at n (return_rules (outer_values f body.items) f.results (length body.items) body.ret))) end ∙ found)

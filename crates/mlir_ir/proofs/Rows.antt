@@ -86,28 +86,28 @@ turn_breaks_ops scope nest at wanted (Region' shape row ends) =
 pub for_breaks_parts : (scope : List Value) (nest : Nest) (at : Position) (results : List IrType) (p : ForParts)
     → for_breaks scope nest at results p
     ≡ (args_breaks false 0 [] scope at ((out-ForParts p).iv ∷ [])
-      ++ args_breaks false 0 [] (scope ++ arg_values at.next ((out-ForParts p).iv ∷ [])) (past 1 0 at) (out-ForParts p).args
-      ++ arm_breaks
-      (scope ++ arg_values at.next ((out-ForParts p).iv ∷ []) ++ arg_values (at.next + 1) (out-ForParts p).args)
-      nest
-      (past (length (out-ForParts p).args) 0 (past 1 0 at))
-      results
-      (out-ForParts p).body)
+    ++ args_breaks false 0 [] (scope ++ arg_values at.next ((out-ForParts p).iv ∷ [])) (past 1 0 at) (out-ForParts p).args
+    ++ arm_breaks
+    (scope ++ arg_values at.next ((out-ForParts p).iv ∷ []) ++ arg_values (at.next + 1) (out-ForParts p).args)
+    nest
+    (past (length (out-ForParts p).args) 0 (past 1 0 at))
+    results
+    (out-ForParts p).body)
 unfolding for_breaks out-ForParts denote.Hole.Carrier.out
 for_breaks_parts scope nest at results (ForParts' lower upper step iv args inits body) = refl
 
 pub while_breaks_parts : (scope : List Value) (nest : Nest) (at : Position) (results : List IrType) (p : WhileParts)
     → while_breaks scope nest at results p
     ≡ (let in_before = past (length (out-WhileParts p).args) 0 at in
-      let behind = past_region (out-WhileParts p).before in_before in
-      args_breaks false 0 [] scope at (out-WhileParts p).args
-      ++ before_breaks (scope ++ arg_values at.next (out-WhileParts p).args) nest in_before results (out-WhileParts p).cond (out-WhileParts p).before
-      ++ args_breaks false 0 results scope behind (out-WhileParts p).after_args
-      ++ turn_breaks
-      (scope ++ arg_values behind.next (out-WhileParts p).after_args)
-      nest
-      (past (length (out-WhileParts p).after_args) 0 behind)
-      (arg_types (out-WhileParts p).args)
-      (out-WhileParts p).after)
+    let behind = past_region (out-WhileParts p).before in_before in
+    args_breaks false 0 [] scope at (out-WhileParts p).args
+    ++ before_breaks (scope ++ arg_values at.next (out-WhileParts p).args) nest in_before results (out-WhileParts p).cond (out-WhileParts p).before
+    ++ args_breaks false 0 results scope behind (out-WhileParts p).after_args
+    ++ turn_breaks
+    (scope ++ arg_values behind.next (out-WhileParts p).after_args)
+    nest
+    (past (length (out-WhileParts p).after_args) 0 behind)
+    (arg_types (out-WhileParts p).args)
+    (out-WhileParts p).after)
 unfolding while_breaks out-WhileParts denote.Hole.Carrier.out
 while_breaks_parts scope nest at results (WhileParts' args inits before cond after_args after) = refl

@@ -89,7 +89,7 @@ pub next_op : (scope : List Value) (nest : Nest) (at behind : Position) (ops : L
     → behind ≡ past_ops (take k ops) at
     → first (ops_breaks (scope ++ results_of at.next (take k ops)) nest behind (drop k ops))
     ≡ option_or (first (op_breaks (scope ++ results_of at.next (take k ops)) nest behind op))
-      (first (ops_breaks (scope ++ results_of at.next (take (k + 1) ops)) nest (past_op op behind) (drop (k + 1) ops)))
+    (first (ops_breaks (scope ++ results_of at.next (take (k + 1) ops)) nest (past_op op behind) (drop (k + 1) ops)))
 next_op scope nest at behind ops k op l e is =
     let n : behind.next ≡ at.next + ops_labels (take k ops) = ap (λ (p : Position). p.next) is in
     rw (rest_of ops k op l e, ← scope_more scope at.next ops k op l e, ← n) (first_append (op_breaks (scope ++ results_of at.next (take k ops)) nest behind op) _)
@@ -123,11 +123,11 @@ taken (x ∷ xs) (suc k) l = ap suc (taken xs k (omega arith))
 pub next_arg : (declared : Bool) (wanted : List IrType) (scope : List Value) (at : Position) (args : List Arg) (k : ℕ) (arg : Arg) → k < length args → arg ≡ get_or args k arg
     → first (args_breaks declared k (drop k wanted) (scope ++ arg_values at.next (take k args)) (past k 0 at) (drop k args))
     ≡ option_or (first (breaks_at (past k 0 at).last (arg_rules declared k (drop k wanted) (scope ++ arg_values at.next (take k args)) arg)))
-      (first (args_breaks declared (k + 1) (drop (k + 1) wanted) (scope ++ arg_values at.next (take (k + 1) args)) (past (k + 1) 0 at) (drop (k + 1) args)))
+    (first (args_breaks declared (k + 1) (drop (k + 1) wanted) (scope ++ arg_values at.next (take (k + 1) args)) (past (k + 1) 0 at) (drop (k + 1) args)))
 next_arg declared wanted scope at args k arg l e =
     let n : at.next + length (take k args) ≡ at.next + k = omega (arith, taken args k l) in
     let grown : scope ++ arg_values at.next (take (k + 1) args) ≡ scope ++ arg_values at.next (take k args) ++ arg_values (at.next + k) (arg ∷ []) =
-        rw (arg_more args k arg l e, arg_values_append at.next (take k args) (arg ∷ []), n) (sym (append_assoc scope _ _)) in
+    rw (arg_more args k arg l e, arg_values_append at.next (take k args) (arg ∷ []), n) (sym (append_assoc scope _ _)) in
     let moved : past 1 0 (past k 0 at) ≡ past (k + 1) 0 at = past_past 1 0 k 0 at in
     rw (arg_rest args k arg l e, grown, ← moved, ← drop_again wanted k) (first_append (breaks_at (past k 0 at).last (arg_rules declared k (drop k wanted) (scope ++ arg_values at.next (take k args)) arg)) _)
 

@@ -106,9 +106,9 @@ result_at at (pack ∷ packs) tys i label e h =
     type_at_append (pack_values at pack 0 (take pack.count tys)) _ label
     ∙ rw (pack_at at pack 0 (take pack.count tys) i label e)
     (⊎_elim
-      (λ l. none_or _ _ (result_below (at + pack.count) packs (drop pack.count tys) label (omega arith)) ∙ get_take_below pack.count tys i l)
-      (λ l. rw (get_take_past pack.count tys i l) (result_at (at + pack.count) packs (drop pack.count tys) (i - pack.count) label (omega arith) (omega arith) ∙ get_drop pack.count tys i (i - pack.count) (omega arith)))
-      side)
+    (λ l. none_or _ _ (result_below (at + pack.count) packs (drop pack.count tys) label (omega arith)) ∙ get_take_below pack.count tys i l)
+    (λ l. rw (get_take_past pack.count tys i l) (result_at (at + pack.count) packs (drop pack.count tys) (i - pack.count) label (omega arith) (omega arith) ∙ get_drop pack.count tys i (i - pack.count) (omega arith)))
+    side)
 
 -- past the packs there is none
 pub result_unnamed : (at : ℕ) (packs : List Pack) (tys : List IrType) (i label : ℕ) → label ≡ at + i → packs_count packs ≤ i → type_at (result_values at packs tys) label ≡ None

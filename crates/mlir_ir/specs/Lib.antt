@@ -7,3 +7,4 @@ pub mod Rules
 pub mod Check
 pub mod Scope
 pub mod Outer
+pub mod Calls

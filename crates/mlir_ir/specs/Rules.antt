@@ -217,11 +217,11 @@ is_kind_sized regions loops _ = true
 
 abbrev pub op_rules : List Value → Nest → Position → List Pack → List IrType → Kind → Rules
 op_rules scope nest at packs results kind = record {
-    in_scope = are_in_scope scope (operands kind);
-    typed = are_free scope packs && is_kind_typed scope results kind;
-    counted = packs_hold packs (length results) && is_kind_counted (length results) kind;
-    sized =
-        list_all (λ pack. is_short pack.name) packs && nat_le (length results) list_limit && nat_lt at.ops op_limit && nest.item_fits && is_kind_sized nest.regions nest.loops kind
+  in_scope = are_in_scope scope (operands kind);
+  typed = are_free scope packs && is_kind_typed scope results kind;
+  counted = packs_hold packs (length results) && is_kind_counted (length results) kind;
+  sized =
+      list_all (λ pack. is_short pack.name) packs && nat_le (length results) list_limit && nat_lt at.ops op_limit && nest.item_fits && is_kind_sized nest.regions nest.loops kind;
 }
 
 -- arguments: number n of its list; a type that it has to have; in a declaration a name may be missing

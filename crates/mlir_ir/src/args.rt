@@ -13,7 +13,13 @@ use crate::types::{Arg, IrType};
 /// The position past the arguments, or their first break. Their types are those of `wanted`, as far
 /// as that goes; in a declaration names may be missing.
 #[tactic(auto, using(crate::proofs::Steps::next_arg, crate::proofs::Steps::past_past))]
-pub(crate) fn check_args<'x>(scope: &'x Scope<'x>, declared: bool, wanted: &[IrType], at: Position, args: &'x [Arg]) -> Result<Position, Shape>
+pub(crate) fn check_args<'x>(
+    scope: &'x Scope<'x>,
+    declared: bool,
+    wanted: &[IrType],
+    at: Position,
+    args: &'x [Arg],
+) -> Result<Position, Shape>
     requires { at.next + min 16 (length args.now) < 2 ^ 32 }
     ensures found { spec.first (spec.args_breaks declared 0 wanted.now (scope_values scope.now) at args.now) ≡ result_err result }
     ensures moved { IfOk result (λ behind. behind ≡ spec.past (length args.now) 0 at) }

@@ -38,7 +38,13 @@ fn check_excess(scope: &Scope, nest: Nest, at: Position, ops: &[Op]) -> Result<(
 
 /// The position past an item, of which the last label and the number of operations count, or its
 /// first break.
-fn check_item(scope: &Scope, func: u8, number: usize, at: Position, item: &Item) -> Result<Position, Shape>
+fn check_item(
+    scope: &Scope,
+    func: u8,
+    number: usize,
+    at: Position,
+    item: &Item,
+) -> Result<Position, Shape>
     ensures found { spec.first (spec.ops_breaks (scope_values scope.now) (spec.in_item number item.now) (spec.at_item func number at) item.now.ops) ≡ result_err result }
     ensures last { IfOk result (λ behind. behind.last ≡ (spec.past_ops item.now.ops (spec.at_item func number at)).last) }
     ensures ops { IfOk result (λ behind. behind.ops ≡ (spec.past_ops item.now.ops (spec.at_item func number at)).ops) }
@@ -88,7 +94,10 @@ fn check_body(func: &Func, body: &Body, at: Position) -> Result<(), Shape>
     };
     let results = func.results.as_slice();
     let ret = body.ret.as_slice();
-    keep(behind.last, return_rules(&Scope::Top(outer), results, items.len(), ret))
+    keep(
+        behind.last,
+        return_rules(&Scope::Top(outer), results, items.len(), ret),
+    )
 }
 
 impl Func {
@@ -115,7 +124,13 @@ impl Func {
             args: &[],
             items: &[],
         });
-        let behind = check_args(&outside, self.body.is_none(), &[], begin, self.args.as_slice())?;
+        let behind = check_args(
+            &outside,
+            self.body.is_none(),
+            &[],
+            begin,
+            self.args.as_slice(),
+        )?;
         match &self.body {
             None => Ok(()),
             Some(body) => Ok(check_body(self, body, behind)?),

@@ -39,7 +39,8 @@ fn is_for_counted(results: usize, parts: &ForParts) -> bool
 fn is_while_counted(results: usize, parts: &WhileParts) -> bool
     ensures { result ≡ spec.is_kind_counted results (Kind.While parts.now) }
 {
-    parts.inits.as_slice().len() == parts.args.as_slice().len() && parts.after_args.as_slice().len() == results
+    parts.inits.as_slice().len() == parts.args.as_slice().len()
+        && parts.after_args.as_slice().len() == results
 }
 
 /// Whether an operation with so many results has lists that agree, and regions that give them.

@@ -9,7 +9,9 @@ use crate::rules::{Nest, Position, Rules};
 use crate::scope::Scope;
 use crate::typed::{are_free, is_free, is_kind_typed, truth};
 use crate::types::{Arg, Func, IrType, Op, Pack};
-use crate::uses::{are_in_scope, has_type, have_arg_types, have_types, operands_in_scope, same_type};
+use crate::uses::{
+    are_in_scope, has_type, have_arg_types, have_types, operands_in_scope, same_type,
+};
 use arith_word::Label;
 
 fn is_short(name: &[u8]) -> bool
@@ -53,14 +55,21 @@ fn is_wanted(ty: IrType, wanted: &[IrType], place: usize) -> bool
 }
 
 /// The rules that an argument keeps, which is number `place` of its list from 0 on.
-pub(crate) fn arg_rules(declared: bool, place: usize, wanted: &[IrType], scope: &Scope, arg: &Arg) -> Rules
+pub(crate) fn arg_rules(
+    declared: bool,
+    place: usize,
+    wanted: &[IrType],
+    scope: &Scope,
+    arg: &Arg,
+) -> Rules
     ensures value { result ≡ spec.arg_rules declared place (drop place wanted.now) (scope_values scope.now) arg.now }
     ensures few { IsTrue result.sized → place < 16 }
 {
     let name = arg.name.as_bytes();
     Rules {
         in_scope: true,
-        typed: (is_free(scope, name) || declared && name.len() == 0) && is_wanted(arg.ty, wanted, place),
+        typed: (is_free(scope, name) || declared && name.len() == 0)
+            && is_wanted(arg.ty, wanted, place),
         counted: true,
         sized: is_short(name) && place < 16,
     }
@@ -104,7 +113,12 @@ pub(crate) fn turn_rules(scope: &Scope, wanted: &[Arg], ends: &[Label]) -> Rules
 }
 
 /// The rules that an `scf.condition` keeps.
-pub(crate) fn condition_rules(scope: &Scope, wanted: &[IrType], cond: Label, passed: &[Label]) -> Rules
+pub(crate) fn condition_rules(
+    scope: &Scope,
+    wanted: &[IrType],
+    cond: Label,
+    passed: &[Label],
+) -> Rules
     ensures { result ≡ spec.condition_rules (scope_values scope.now) wanted.now cond passed.now }
 {
     Rules {

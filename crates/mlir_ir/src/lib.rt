@@ -23,7 +23,11 @@ mod walk;
 
 pub use module::Module;
 pub use names::is_name;
+pub use rules::{Nest, Position, Rules};
 pub use shape::{Shape, ShapeFault};
 pub use types::{
     Arg, Body, Flags, ForParts, Func, IrType, Item, Kind, Op, Pack, Region, WhileParts,
 };
+
+#[cfg(test)]
+mod tests;

@@ -1,7 +1,6 @@
 ghost use Rattle.std.specs.Prelude.{◌≡◌};
 ghost use Rattle.mlir_ir.specs.Check.{results_of};
 ghost use Rattle.mlir_ir.specs.Values.{arg_values, result_values, type_at};
-
 ghost use Rattle.mlir_ir.specs.Scope as spec;
 
 use crate::count::skip_kind;
@@ -60,7 +59,12 @@ pub(crate) fn ops_type(at: u32, ops: &[Op], label: u32) -> Option<IrType>
             return None;
         };
         if (index as usize) < op.results.as_slice().len() {
-            return result_type(label - index, op.packs.as_slice(), op.results.as_slice(), label);
+            return result_type(
+                label - index,
+                op.packs.as_slice(),
+                op.results.as_slice(),
+                label,
+            );
         }
         left = index - op.results.as_slice().len() as u32;
     }

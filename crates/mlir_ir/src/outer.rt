@@ -14,4 +14,3 @@ pub(crate) struct Outer<'a> {
     ghost few_args: { length args.now ≤ list_limit },
     ghost few_labels: { All KeepsLabels items.now },
 }
-

@@ -176,12 +176,17 @@ pub(crate) fn is_kind_typed(scope: &Scope, results: &[IrType], kind: &Kind) -> b
     match kind {
         Kind::Const(v) => gives_number(*v, results),
         Kind::Bin(op, flags, a, b) => {
-            (may_wrap(*op) || !has_flags(*flags)) && agree(scope, *a, *b) && gives_type_of(scope, *a, results)
+            (may_wrap(*op) || !has_flags(*flags))
+                && agree(scope, *a, *b)
+                && gives_type_of(scope, *a, results)
         }
-        Kind::Cast(op, flags, a) => (may_lose(*op) || !has_flags(*flags)) && gives_cast(scope, *op, *a, results),
+        Kind::Cast(op, flags, a) => (may_lose(*op) || !has_flags(*flags))
+            && gives_cast(scope, *op, *a, results),
         Kind::Cmp(_, a, b) => agree(scope, *a, *b) && gives(truth(), results),
         Kind::Select(c, a, b) => {
-            has_type(scope, truth(), *c) && agree(scope, *a, *b) && gives_type_of(scope, *a, results)
+            has_type(scope, truth(), *c)
+                && agree(scope, *a, *b)
+                && gives_type_of(scope, *a, results)
         }
         Kind::Call(_, _) => true,
         Kind::If(c, _, _) => has_type(scope, truth(), *c),

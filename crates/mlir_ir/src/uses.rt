@@ -122,7 +122,9 @@ pub(crate) fn operands_in_scope(scope: &Scope, kind: &Kind) -> bool
         Kind::Bin(_, _, a, b) => is_in_scope(scope, *a) && is_in_scope(scope, *b),
         Kind::Cast(_, _, a) => is_in_scope(scope, *a),
         Kind::Cmp(_, a, b) => is_in_scope(scope, *a) && is_in_scope(scope, *b),
-        Kind::Select(c, a, b) => is_in_scope(scope, *c) && is_in_scope(scope, *a) && is_in_scope(scope, *b),
+        Kind::Select(c, a, b) => is_in_scope(scope, *c)
+            && is_in_scope(scope, *a)
+            && is_in_scope(scope, *b),
         Kind::Call(_, uses) => are_in_scope(scope, uses.as_slice()),
         Kind::If(c, _, _) => is_in_scope(scope, *c),
         Kind::For(parts) => {

@@ -18,7 +18,12 @@ use std::slice;
 /// The position past the operations, or their first break.
 #[cycle(walk)]
 #[tactic(auto, using(crate::proofs::Steps::next_op, crate::proofs::Steps::past_ops_more, crate::proofs::Steps::ops_room))]
-pub(crate) fn check_ops<'x>(scope: &'x Scope<'x>, nest: Nest, at: Position, ops: &'x [Op]) -> Result<Position, Shape>
+pub(crate) fn check_ops<'x>(
+    scope: &'x Scope<'x>,
+    nest: Nest,
+    at: Position,
+    ops: &'x [Op],
+) -> Result<Position, Shape>
     requires { at.next + ops_labels ops.now < 2 ^ 32 }
     ensures found { spec.first (spec.ops_breaks (scope_values scope.now) nest at ops.now) ≡ result_err result }
     ensures moved { IfOk result (λ behind. behind ≡ spec.past_ops ops.now at) }
@@ -32,7 +37,12 @@ pub(crate) fn check_ops<'x>(scope: &'x Scope<'x>, nest: Nest, at: Position, ops:
 }
 
 #[cycle(walk)]
-fn check_op<'x>(scope: &'x Scope<'x>, nest: Nest, at: Position, op: &'x Op) -> Result<Position, Shape>
+fn check_op<'x>(
+    scope: &'x Scope<'x>,
+    nest: Nest,
+    at: Position,
+    op: &'x Op,
+) -> Result<Position, Shape>
     requires { at.next + op_labels op.now < 2 ^ 32 }
     ensures found { spec.first (spec.op_breaks (scope_values scope.now) nest at op.now) ≡ result_err result }
     ensures moved { IfOk result (λ behind. behind ≡ spec.past_op op.now at) }
@@ -46,7 +56,13 @@ fn check_op<'x>(scope: &'x Scope<'x>, nest: Nest, at: Position, op: &'x Op) -> R
 /// The position past what stands inside an operation with these results, or its first break.
 #[cycle(walk)]
 #[tactic(auto, using(crate::proofs::Steps::first_append, crate::proofs::Steps::past_past, crate::proofs::Steps::past_none), unfolding(crate::specs::Check::kind_breaks, crate::specs::Check::else_breaks))]
-fn check_kind<'x>(scope: &'x Scope<'x>, nest: Nest, at: Position, results: &[IrType], kind: &'x Kind) -> Result<Position, Shape>
+fn check_kind<'x>(
+    scope: &'x Scope<'x>,
+    nest: Nest,
+    at: Position,
+    results: &[IrType],
+    kind: &'x Kind,
+) -> Result<Position, Shape>
     requires room { at.next + kind_labels kind.now < 2 ^ 32 }
     requires opens { IsTrue (is_kind_sized nest.regions nest.loops kind.now) }
     ensures found { spec.first (spec.kind_breaks (scope_values scope.now) nest at results.now kind.now) ≡ result_err result }
@@ -67,7 +83,13 @@ fn check_kind<'x>(scope: &'x Scope<'x>, nest: Nest, at: Position, results: &[IrT
 /// A region whose yield gives values of these types.
 #[cycle(walk)]
 #[tactic(auto, using(crate::proofs::Rows::arm_breaks_ops, crate::proofs::Rows::region_labels_items, crate::proofs::Rows::region_ops_items, crate::proofs::Steps::first_append))]
-fn check_arm<'x>(scope: &'x Scope<'x>, nest: Nest, at: Position, wanted: &[IrType], region: &'x Region) -> Result<Position, Shape>
+fn check_arm<'x>(
+    scope: &'x Scope<'x>,
+    nest: Nest,
+    at: Position,
+    wanted: &[IrType],
+    region: &'x Region,
+) -> Result<Position, Shape>
     requires { at.next + region_labels region.now < 2 ^ 32 }
     ensures found { spec.first (spec.arm_breaks (scope_values scope.now) nest at wanted.now region.now) ≡ result_err result }
     ensures moved { IfOk result (λ behind. behind ≡ spec.past_region region.now at) }
@@ -75,14 +97,23 @@ fn check_arm<'x>(scope: &'x Scope<'x>, nest: Nest, at: Position, wanted: &[IrTyp
     let ops = region.ops.as_slice();
     let behind = check_ops(scope, nest, at, ops)?;
     let inside = Scope::Ops(&*scope, at.next, ops);
-    keep(behind.last, yield_rules(&inside, wanted, region.ends.as_slice()))?;
+    keep(
+        behind.last,
+        yield_rules(&inside, wanted, region.ends.as_slice()),
+    )?;
     Ok(behind)
 }
 
 /// A loop behind its counter.
 #[cycle(walk)]
 #[tactic(auto, using(crate::proofs::Rows::for_breaks_parts, crate::proofs::Steps::first_append))]
-fn check_for<'x>(scope: &'x Scope<'x>, nest: Nest, at: Position, results: &[IrType], parts: &'x ForParts) -> Result<Position, Shape>
+fn check_for<'x>(
+    scope: &'x Scope<'x>,
+    nest: Nest,
+    at: Position,
+    results: &[IrType],
+    parts: &'x ForParts,
+) -> Result<Position, Shape>
     requires { at.next + for_labels parts.now ≤ 2 ^ 32 }
     ensures found { spec.first (spec.for_breaks (scope_values scope.now) nest at results.now parts.now) ≡ result_err result }
     ensures moved { IfOk result (λ behind. behind ≡ spec.past (for_labels parts.now - 1) (spec.for_ops parts.now) at) }
@@ -99,7 +130,13 @@ fn check_for<'x>(scope: &'x Scope<'x>, nest: Nest, at: Position, results: &[IrTy
 /// A loop behind its counter.
 #[cycle(walk)]
 #[tactic(auto, using(crate::proofs::Rows::while_breaks_parts, crate::proofs::Steps::first_append))]
-fn check_while<'x>(scope: &'x Scope<'x>, nest: Nest, at: Position, results: &[IrType], parts: &'x WhileParts) -> Result<Position, Shape>
+fn check_while<'x>(
+    scope: &'x Scope<'x>,
+    nest: Nest,
+    at: Position,
+    results: &[IrType],
+    parts: &'x WhileParts,
+) -> Result<Position, Shape>
     requires { at.next + while_labels parts.now ≤ 2 ^ 32 }
     ensures found { spec.first (spec.while_breaks (scope_values scope.now) nest at results.now parts.now) ≡ result_err result }
     ensures moved { IfOk result (λ behind. behind ≡ spec.past (while_labels parts.now - 1) (spec.while_ops parts.now) at) }
@@ -107,7 +144,14 @@ fn check_while<'x>(scope: &'x Scope<'x>, nest: Nest, at: Position, results: &[Ir
     let args = parts.args.as_slice();
     let in_before = check_args(scope, false, &[], at, args)?;
     let with_args = Scope::Args(&*scope, at.next, args);
-    let behind = check_before(&with_args, nest, in_before, results, parts.cond, &parts.before)?;
+    let behind = check_before(
+        &with_args,
+        nest,
+        in_before,
+        results,
+        parts.cond,
+        &parts.before,
+    )?;
     let after_args = parts.after_args.as_slice();
     let in_after = check_args(scope, false, results, behind, after_args)?;
     let with_after = Scope::Args(&*scope, behind.next, after_args);
@@ -117,7 +161,14 @@ fn check_while<'x>(scope: &'x Scope<'x>, nest: Nest, at: Position, results: &[Ir
 /// The region before a turn, which ends with its condition.
 #[cycle(walk)]
 #[tactic(auto, using(crate::proofs::Rows::before_breaks_ops, crate::proofs::Rows::region_labels_items, crate::proofs::Rows::region_ops_items, crate::proofs::Steps::first_append))]
-fn check_before<'x>(scope: &'x Scope<'x>, nest: Nest, at: Position, results: &[IrType], cond: Label, region: &'x Region) -> Result<Position, Shape>
+fn check_before<'x>(
+    scope: &'x Scope<'x>,
+    nest: Nest,
+    at: Position,
+    results: &[IrType],
+    cond: Label,
+    region: &'x Region,
+) -> Result<Position, Shape>
     requires { at.next + region_labels region.now < 2 ^ 32 }
     ensures found { spec.first (spec.before_breaks (scope_values scope.now) nest at results.now cond region.now) ≡ result_err result }
     ensures moved { IfOk result (λ behind. behind ≡ spec.past_region region.now at) }
@@ -125,14 +176,23 @@ fn check_before<'x>(scope: &'x Scope<'x>, nest: Nest, at: Position, results: &[I
     let ops = region.ops.as_slice();
     let behind = check_ops(scope, nest, at, ops)?;
     let inside = Scope::Ops(&*scope, at.next, ops);
-    keep(behind.last, condition_rules(&inside, results, cond, region.ends.as_slice()))?;
+    keep(
+        behind.last,
+        condition_rules(&inside, results, cond, region.ends.as_slice()),
+    )?;
     Ok(behind)
 }
 
 /// The region of a turn.
 #[cycle(walk)]
 #[tactic(auto, using(crate::proofs::Rows::turn_breaks_ops, crate::proofs::Rows::region_labels_items, crate::proofs::Rows::region_ops_items, crate::proofs::Steps::first_append))]
-fn check_turn<'x>(scope: &'x Scope<'x>, nest: Nest, at: Position, wanted: &[Arg], region: &'x Region) -> Result<Position, Shape>
+fn check_turn<'x>(
+    scope: &'x Scope<'x>,
+    nest: Nest,
+    at: Position,
+    wanted: &[Arg],
+    region: &'x Region,
+) -> Result<Position, Shape>
     requires { at.next + region_labels region.now < 2 ^ 32 }
     ensures found { spec.first (spec.turn_breaks (scope_values scope.now) nest at (arg_types wanted.now) region.now) ≡ result_err result }
     ensures moved { IfOk result (λ behind. behind ≡ spec.past_region region.now at) }
@@ -140,6 +200,9 @@ fn check_turn<'x>(scope: &'x Scope<'x>, nest: Nest, at: Position, wanted: &[Arg]
     let ops = region.ops.as_slice();
     let behind = check_ops(scope, nest, at, ops)?;
     let inside = Scope::Ops(&*scope, at.next, ops);
-    keep(behind.last, turn_rules(&inside, wanted, region.ends.as_slice()))?;
+    keep(
+        behind.last,
+        turn_rules(&inside, wanted, region.ends.as_slice()),
+    )?;
     Ok(behind)
 }

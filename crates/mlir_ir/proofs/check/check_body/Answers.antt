@@ -34,7 +34,7 @@ pub returns : goal.returns
 returns c =
     let gone = drop_all c.loop-k.k c.as_slice-items.result.now c.loop-k-test.false in
     let none : first (items_breaks c.args.func.now.index 1 (arg_values (label_at c.args.func.now.index 0 0) c.as_slice-args.result.now) c.args.at c.as_slice-items.result.now) ≡ None =
-        sym (rw gone at c.loop-k.invariant.rest) in
+    sym (rw gone at c.loop-k.invariant.rest) in
     let last : c.loop-k.behind.last ≡ (past_items c.args.func.now.index 1 c.as_slice-items.result.now c.args.at).last = rw gone at c.loop-k.invariant.last in
     let kept = rw (c.return_rules.ensures, c.as_slice-args.ensures, c.as_slice-results.ensures, c.as_slice-ret.ensures, c.as_slice-items.ensures) at c.keep.ensures.found in
     body_ended c.args.func.now c.args.body.now c.args.at c.loop-k.behind.last _ c.requires.begin (rw (c.as_slice-items.ensures, c.as_slice-args.ensures) at none) (rw c.as_slice-items.ensures at last) kept

@@ -5,8 +5,8 @@ use Rattle.mlir_ir.proofs.walk.+walk.Given as goal
 
 abbrev pub invariant-check_ops-loop-k : goal.invariant-check_ops-loop-k
 invariant-check_ops-loop-k l = record {
-    moved : l.behind ≡ past_ops (take l.k l.ops) l.at;
-    rest :
-        first (ops_breaks (scope_values l.scope ++ results_of l.at.next (take l.k l.ops)) l.nest l.behind (drop l.k l.ops))
-        ≡ first (ops_breaks (scope_values l.scope) l.nest l.at l.ops)
+  moved : l.behind ≡ past_ops (take l.k l.ops) l.at;
+  rest :
+      first (ops_breaks (scope_values l.scope ++ results_of l.at.next (take l.k l.ops)) l.nest l.behind (drop l.k l.ops))
+      ≡ first (ops_breaks (scope_values l.scope) l.nest l.at l.ops);
 }
