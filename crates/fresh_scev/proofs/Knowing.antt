@@ -1,9 +1,9 @@
 -- The facts know exactly the values of a function, at the widths of their types.
-use Rattle.std.proofs.Common.{◌≡◌, ℕ, zero, suc, ◌+◌, ◌-◌, ◌^◌, ◌<◌, ◌≤◌, ◌==◌, ◌&&◌, nat_lt, nat_le, List, [], ◌∷◌, ◌++◌, length, take, drop, find, Option, Some, None, arith, refl, sym, ap, subst, ◌∙◌, true, false, Bool, ◌⊎◌, inl, inr, append_assoc}
+use Rattle.std.proofs.Common.{◌≡◌, ℕ, ◌+◌, ◌-◌, ◌^◌, ◌<◌, ◌≤◌, ◌==◌, ◌&&◌, nat_lt, nat_le, List, [], ◌∷◌, ◌++◌, length, take, drop, find, Option, Some, None, arith, refl, sym, ap, subst, ◌∙◌, true, false, inl, inr, append_assoc}
 use Rattle.std.proofs.lemmas.Bool.{and_parts, cases_Bool, cases_eq, eq-eqb, ne_eqb, eqb-true, leb-true}
 use Rattle.std.proofs.lemmas.List.{append-nil, length_push, length-drop, length-take-le, take-append-drop}
 use Rattle.std.specs.List.{list_all}
-use Rattle.std.specs.Option.{option_map, unwrap_or}
+use Rattle.std.specs.Option.{option_map}
 use Rattle.arith_word.specs.declared.op.BinOp.{BinOp}
 use Rattle.arith_word.specs.declared.op.BinOp.TheVariants.{Addi, Subi, Muli, Andi, Ori, Xori, Minsi, Maxsi, Minui, Maxui, Shli, Shrui, Shrsi, Divui, Remui, Divsi, Remsi}
 use Rattle.mlir_ir.specs.declared.types.Arg.{Arg}
@@ -20,7 +20,7 @@ use Rattle.mlir_ir.specs.Rules.{packs_hold}
 use Rattle.mlir_ir.specs.Values.{Value, arg_values, pack_values, result_values, kind_values, ops_values, items_values, body_values, func_values, type_at}
 use Rattle.mlir_ir.specs.Words.{bits_of}
 use Rattle.fresh_scev.specs.declared.facts.Facts.{Facts}
-use Rattle.fresh_scev.specs.Linear.{Linear, symbol_expr, is_number, product}
+use Rattle.fresh_scev.specs.Linear.{Linear, symbol_expr, is_number}
 use Rattle.fresh_scev.specs.Fresh.{expr_at, with_item, next_label, op_expr, bin_expr, kind_expr, with_result, with_results, with_ops, with_items, arg_exprs, items_of, facts_of}
 use Rattle.fresh_scev.specs.Straight.{holds_no_region, item_holds_no_region, is_straight_line, HaveLabels}
 use Rattle.fresh_scev.proofs.Limits.{limits, packs, HavePacks, ItemsHavePacks}
@@ -60,15 +60,15 @@ knows_more facts here e vs v lo hi known same width = record { at = at }
     at label =
         elim (cases_eq label (next_label facts here)) [
           | inl new ↦
-            let P : ℕ → Type 0 = λ l. option_map (λ (e : Linear). e.w) (expr_at (with_item facts (here ++ e ∷ [])) l) ≡ option_map bits_of (type_at (vs ++ v ∷ []) l) in
-            let none : find (λ (x : Value). x.label == next_label facts here) vs ≡ None = none_from _ (sym (ap (option_map (λ (e : Linear). e.w)) (expr_at-next_none facts here lo hi)) ∙ known.at (next_label facts here)) in
-            let left : option_map (λ (e : Linear). e.w) (expr_at (with_item facts (here ++ e ∷ [])) (next_label facts here)) ≡ Some e.w = ap (option_map (λ (e : Linear). e.w)) (expr_at-next facts here e lo hi) in
-            let right : option_map bits_of (type_at (vs ++ v ∷ []) (next_label facts here)) ≡ Some (bits_of v.ty) = ap (λ o. option_map bits_of (option_map (λ (v : Value). v.ty) o)) (find_new vs v (next_label facts here) same none) in
-            subst P (sym new) (left ∙ ap (λ n. Some n) width ∙ sym right)
+              let P : ℕ → Type 0 = λ l. option_map (λ (e : Linear). e.w) (expr_at (with_item facts (here ++ e ∷ [])) l) ≡ option_map bits_of (type_at (vs ++ v ∷ []) l) in
+              let none : find (λ (x : Value). x.label == next_label facts here) vs ≡ None = none_from _ (sym (ap (option_map (λ (e : Linear). e.w)) (expr_at-next_none facts here lo hi)) ∙ known.at (next_label facts here)) in
+              let left : option_map (λ (e : Linear). e.w) (expr_at (with_item facts (here ++ e ∷ [])) (next_label facts here)) ≡ Some e.w = ap (option_map (λ (e : Linear). e.w)) (expr_at-next facts here e lo hi) in
+              let right : option_map bits_of (type_at (vs ++ v ∷ []) (next_label facts here)) ≡ Some (bits_of v.ty) = ap (λ o. option_map bits_of (option_map (λ (v : Value). v.ty) o)) (find_new vs v (next_label facts here) same none) in
+              subst P (sym new) (left ∙ ap (λ n. Some n) width ∙ sym right)
           | inr apart ↦
-            ap (option_map (λ (e : Linear). e.w)) (expr_at-other facts here e label apart)
-            ∙ known.at label
-            ∙ sym (ap (λ o. option_map bits_of (option_map (λ (v : Value). v.ty) o)) (find_other vs v label (λ found. apart (sym found ∙ same))))
+              ap (option_map (λ (e : Linear). e.w)) (expr_at-other facts here e label apart)
+              ∙ known.at label
+              ∙ sym (ap (λ o. option_map bits_of (option_map (λ (v : Value). v.ty) o)) (find_other vs v label (λ found. apart (sym found ∙ same))))
         ]
 
 -- values of these types, with labels from `at` on
@@ -105,7 +105,7 @@ results_are at (pack ∷ packs) tys h =
     let rest : packs_hold packs (length (drop pack.count tys)) ≡ true = ap (packs_hold packs) (length-drop pack.count tys) ∙ both.1 in
     let few : at + pack.count ≡ at + length (take pack.count tys) = ap (λ n. at + n) (sym (length-take-le pack.count tys within)) in
     let tail : AreResults (at + length (take pack.count tys)) (result_values (at + pack.count) packs (drop pack.count tys)) (drop pack.count tys) =
-        subst (λ n. AreResults n (result_values (at + pack.count) packs (drop pack.count tys)) (drop pack.count tys)) few (results_are (at + pack.count) packs (drop pack.count tys) rest)
+    subst (λ n. AreResults n (result_values (at + pack.count) packs (drop pack.count tys)) (drop pack.count tys)) few (results_are (at + pack.count) packs (drop pack.count tys) rest)
     in
     subst (λ us. AreResults at (result_values at (pack ∷ packs) tys) us) (take-append-drop pack.count tys) (append_are at (pack_values at pack 0 (take pack.count tys)) (result_values (at + pack.count) packs (drop pack.count tys)) (take pack.count tys) (drop pack.count tys) (pack_are at pack 0 (take pack.count tys)) tail)
 
@@ -142,8 +142,8 @@ bin_width own op (Some a) None = refl
 bin_width own op (Some a) (Some b) =
     elim (cases_Bool (a.w == own.w && b.w == own.w)) [
       | inl both ↦
-        let widths = and_parts (a.w == own.w) (b.w == own.w) both in
-        rw both (op_width own a b op (eqb-true a.w own.w widths.0) (eqb-true b.w own.w widths.1))
+          let widths = and_parts (a.w == own.w) (b.w == own.w) both in
+          rw both (op_width own a b op (eqb-true a.w own.w widths.0) (eqb-true b.w own.w widths.1))
       | inr other ↦ rw other refl
     ]
 
@@ -171,7 +171,7 @@ knows_results facts kind here (ty ∷ tys) vs (r ∷ rs) lo hi known h =
     let width : (kind_expr (with_item facts here) own kind).w ≡ bits_of r.ty = kind_width (with_item facts here) own kind ∙ ap bits_of (sym h.1) in
     let more : Knows (with_item facts (with_result facts kind here ty)) (vs ++ r ∷ []) = knows_more facts here (kind_expr (with_item facts here) own kind) vs r lo (omega arith) known h.0 width in
     subst (Knows (with_item facts (with_results facts kind here (ty ∷ tys)))) (append_assoc vs (r ∷ []) rs)
-        (knows_results facts kind (with_result facts kind here ty) tys (vs ++ r ∷ []) rs lo (omega (arith, longer)) more (subst (λ n. AreResults n rs tys) next h.2))
+    (knows_results facts kind (with_result facts kind here ty) tys (vs ++ r ∷ []) rs lo (omega (arith, longer)) more (subst (λ n. AreResults n rs tys) next h.2))
 
 -- such an operation has no values but its results
 no_values : (label : ℕ) (kind : Kind) → holds_no_region kind ≡ true → kind_values label kind ≡ []
@@ -198,7 +198,7 @@ knows_ops facts here label (op ∷ ops) vs lo hi at straight counted known =
     let rest : List Value = ops_values (label + op_labels op) ops in
     let are : AreResults (next_label facts here) rs op.results = subst (λ n. AreResults n rs op.results) begin (results_are (label + kind_labels op.kind) op.packs op.results counted.0) in
     let walked : Knows (with_item facts (with_ops facts here (op ∷ ops))) ((vs ++ rs) ++ rest) =
-        knows_ops facts (with_results facts op.kind here op.results) (label + op_labels op) ops (vs ++ rs) lo (omega (arith, none, longer)) next both.1 counted.1 (knows_results facts op.kind here op.results vs rs lo (omega (arith, none)) known are)
+    knows_ops facts (with_results facts op.kind here op.results) (label + op_labels op) ops (vs ++ rs) lo (omega (arith, none, longer)) next both.1 counted.1 (knows_results facts op.kind here op.results vs rs lo (omega (arith, none)) known are)
     in
     let whole : (vs ++ rs) ++ rest ≡ vs ++ ((kind_values label op.kind ++ rs) ++ rest) = append_assoc vs rs rest ∙ ap (λ inner. vs ++ ((inner ++ rs) ++ rest)) (sym (no_values label op.kind both.0)) in
     subst (Knows (with_item facts (with_ops facts here (op ∷ ops)))) whole walked
@@ -214,8 +214,8 @@ knows_items facts k (item ∷ items) vs at fits labels straight counted known =
     let begin : label_at facts.func k 0 ≡ next_label facts [] = omega (arith, at) in
     let longer : length (with_item facts here).items ≡ length facts.items + 1 = length_push facts.items here in
     subst (Knows (with_items facts (item ∷ items))) (append_assoc vs own (items_values facts.func (k + 1) items))
-        (knows_items (with_item facts here) (k + 1) items (vs ++ own) (omega (arith, at, longer)) (omega (arith, longer)) labels.1 both.1 counted.1
-            (knows_ops facts [] (label_at facts.func k 0) item.ops vs (omega arith) (omega (arith, labels.0)) begin both.0 counted.0 empty))
+    (knows_items (with_item facts here) (k + 1) items (vs ++ own) (omega (arith, at, longer)) (omega (arith, longer)) labels.1 both.1 counted.1
+    (knows_ops facts [] (label_at facts.func k 0) item.ops vs (omega arith) (omega (arith, labels.0)) begin both.0 counted.0 empty))
 
 knows_args : (facts : Facts) (here : List Linear) (label : ℕ) (args : List Arg) (vs : List Value) → length facts.items < 2 ^ 10 → length here + length args ≤ 2 ^ 14 → label ≡ next_label facts here → Knows (with_item facts here) vs →
     Knows (with_item facts (here ++ arg_exprs label args)) (vs ++ arg_values label args)
@@ -226,10 +226,10 @@ knows_args facts here label (arg ∷ args) vs lo hi at known =
     let longer = length_push here e in
     let next : label + 1 ≡ next_label facts (here ++ e ∷ []) = omega (arith, at, longer) in
     let walked : Knows (with_item facts ((here ++ e ∷ []) ++ arg_exprs (label + 1) args)) ((vs ++ v ∷ []) ++ arg_values (label + 1) args) =
-        knows_args facts (here ++ e ∷ []) (label + 1) args (vs ++ v ∷ []) lo (omega (arith, longer)) next (knows_more facts here e vs v lo (omega arith) known at refl)
+    knows_args facts (here ++ e ∷ []) (label + 1) args (vs ++ v ∷ []) lo (omega (arith, longer)) next (knows_more facts here e vs v lo (omega arith) known at refl)
     in
     subst (λ l. Knows (with_item facts l) (vs ++ arg_values label (arg ∷ args))) (append_assoc here (e ∷ []) (arg_exprs (label + 1) args))
-        (subst (Knows (with_item facts ((here ++ e ∷ []) ++ arg_exprs (label + 1) args))) (append_assoc vs (v ∷ []) (arg_values (label + 1) args)) walked)
+    (subst (Knows (with_item facts ((here ++ e ∷ []) ++ arg_exprs (label + 1) args))) (append_assoc vs (v ∷ []) (arg_values (label + 1) args)) walked)
 
 body_same : (func : ℕ) (body : Option Body) → items_values func 1 (items_of body) ≡ body_values func body
 body_same func None = refl
@@ -243,6 +243,6 @@ knows f well straight label =
     let nothing : Knows (with_item begin []) [] = record { at = λ l. ap (option_map (λ (e : Linear). e.w)) (expr_at-nothing f.index l) } in
     let args : Knows (with_item begin (arg_exprs (label_at f.index 0 0) f.args)) (arg_values (label_at f.index 0 0) f.args) = knows_args begin [] (label_at f.index 0 0) f.args [] (omega arith) (omega (arith, within.args)) refl nothing in
     let items : Knows (facts_of f) (arg_values (label_at f.index 0 0) f.args ++ items_values f.index 1 (items_of f.body)) =
-        knows_items (with_item begin (arg_exprs (label_at f.index 0 0) f.args)) 1 (items_of f.body) (arg_values (label_at f.index 0 0) f.args) refl (omega (arith, within.items)) within.labels straight (packs f well) args
+    knows_items (with_item begin (arg_exprs (label_at f.index 0 0) f.args)) 1 (items_of f.body) (arg_values (label_at f.index 0 0) f.args) refl (omega (arith, within.items)) within.labels straight (packs f well) args
     in
     items.at label ∙ ap (λ vs. option_map bits_of (type_at (arg_values (label_at f.index 0 0) f.args ++ vs) label)) (body_same f.index f.body)

@@ -1,5 +1,5 @@
 -- The limits that a well-formed function keeps.
-use Rattle.std.proofs.Common.{◌≡◌, ℕ, zero, suc, ◌+◌, ◌<◌, ◌≤◌, ◌&&◌, nat_le, nat_lt, Bool, true, false, List, [], ◌∷◌, ◌++◌, length, drop, get_or, Option, Some, None, arith, refl, sym, ap, subst, ◌∙◌}
+use Rattle.std.proofs.Common.{◌≡◌, ℕ, zero, suc, ◌+◌, ◌<◌, ◌≤◌, ◌&&◌, nat_le, nat_lt, Bool, true, false, List, [], ◌∷◌, ◌++◌, length, drop, get_or, Option, Some, None, arith, refl}
 use Rattle.std.proofs.lemmas.Bool.{and_parts, leb-true, ltb-true}
 use Rattle.std.specs.List.{AllByRecursion}
 use Rattle.mlir_ir.specs.declared.shape.Shape.{Shape}
@@ -17,7 +17,7 @@ use Rattle.mlir_ir.specs.declared.types.Op.{Op}
 use Rattle.mlir_ir.specs.Labels.{ops_labels, label_at}
 use Rattle.mlir_ir.specs.Values.{Value, arg_values}
 use Rattle.mlir_ir.specs.Rules.{op_rules, arg_rules, head_rules, return_rules, item_limit, label_limit, list_limit, packs_hold}
-use Rattle.mlir_ir.specs.Check.{unless, breaks_at, op_breaks, ops_breaks, items_breaks, args_breaks, body_breaks, breaks, IsWellFormed, past, past_op, past_ops, past_items, past_args, at_item, in_item, op_results, results_of, outer_values, func_begin, is_declaration}
+use Rattle.mlir_ir.specs.Check.{unless, breaks_at, op_breaks, ops_breaks, items_breaks, args_breaks, body_breaks, IsWellFormed, past, past_op, past_ops, past_args, at_item, in_item, op_results, results_of, outer_values, func_begin, is_declaration}
 use Rattle.fresh_scev.specs.Fresh.{items_of}
 use Rattle.fresh_scev.specs.Straight.{HaveLabels}
 
@@ -135,9 +135,10 @@ ops_packs scope nest at (op ∷ ops) e =
 items_packs : (func k : ℕ) (scope : List Value) (at : Position) (items : List Item) → items_breaks func k scope at items ≡ [] → ItemsHavePacks items
 items_packs func k scope at [] e = tt
 items_packs func k scope at (item ∷ items) e =
-    let first : List Shape = ops_breaks scope (in_item k item) (at_item func k at) item.ops in
-    (ops_packs scope (in_item k item) (at_item func k at) item.ops (left_none first _ e),
-    items_packs func (k + 1) (scope ++ results_of (label_at func k 0) item.ops) (past_ops item.ops (at_item func k at)) items (right_none first _ e))
+    let first : List Shape = ops_breaks scope (in_item k item) (at_item func k at) item.ops in (
+      ops_packs scope (in_item k item) (at_item func k at) item.ops (left_none first _ e),
+      items_packs func (k + 1) (scope ++ results_of (label_at func k 0) item.ops) (past_ops item.ops (at_item func k at)) items (right_none first _ e),
+    )
 
 body_packs : (f : Func) (body : Option Body) → body_breaks f body ≡ [] → ItemsHavePacks (items_of body)
 body_packs f None e = tt

@@ -1,5 +1,5 @@
 -- Where a value's expression stands: by the item and the index in its label.
-use Rattle.std.proofs.Common.{◌≡◌, ℕ, zero, suc, ◌+◌, ◌*◌, ◌/◌, ◌%◌, ◌^◌, ◌<◌, ◌≤◌, ◌==◌, List, [], ◌∷◌, ◌++◌, length, get_or, slice_get, Option, Some, None, if◌then◌else◌, arith, refl, sym, ap, ◌∙◌, true, false, ◌⊎◌, inl, inr}
+use Rattle.std.proofs.Common.{◌≡◌, ℕ, zero, suc, ◌+◌, ◌*◌, ◌/◌, ◌%◌, ◌^◌, ◌<◌, ◌==◌, List, [], ◌∷◌, ◌++◌, length, get_or, slice_get, Option, Some, None, arith, refl, sym, ap, ◌∙◌, true, ◌⊎◌, inl, inr}
 use Rattle.std.proofs.Math.Nat.{div-div-eq-div-mul}
 use Rattle.std.proofs.lemmas.Bool.{cases_Bool, eqb-true, eq-eqb}
 use Rattle.std.proofs.lemmas.Nat.{div-add-mod', div-mul-add, mod-mul-add}
@@ -81,10 +81,11 @@ expr_at-new facts label x h =
 pub parts_of : (func k i : ℕ) → k < 2 ^ 10 → i < 2 ^ 14 → (label_at func k i / 2 ^ 24 ≡ func) × (label_at func k i / 2 ^ 14 % 2 ^ 10 ≡ k) × (label_at func k i % 2 ^ 14 ≡ i)
 parts_of func k i lo hi =
     let whole : label_at func k i ≡ (func * 1024 + k) * 16384 + i = omega arith in
-    let item : label_at func k i / 16384 ≡ func * 1024 + k = ap (λ n. n / 16384) whole ∙ div-mul-add (func * 1024 + k) 16384 i hi in
-    (sym (div-div-eq-div-mul (label_at func k i) 16384 1024) ∙ ap (λ n. n / 1024) item ∙ div-mul-add func 1024 k lo,
-    ap (λ n. n % 1024) item ∙ mod-mul-add func 1024 k lo,
-    ap (λ n. n % 16384) whole ∙ mod-mul-add (func * 1024 + k) 16384 i hi)
+    let item : label_at func k i / 16384 ≡ func * 1024 + k = ap (λ n. n / 16384) whole ∙ div-mul-add (func * 1024 + k) 16384 i hi in (
+      sym (div-div-eq-div-mul (label_at func k i) 16384 1024) ∙ ap (λ n. n / 1024) item ∙ div-mul-add func 1024 k lo,
+      ap (λ n. n % 1024) item ∙ mod-mul-add func 1024 k lo,
+      ap (λ n. n % 16384) whole ∙ mod-mul-add (func * 1024 + k) 16384 i hi,
+    )
 
 last_of : (here : List Linear) (e : Linear) → slice_get (here ++ e ∷ []) (length here) ≡ Some e
 last_of [] e = refl
@@ -120,8 +121,8 @@ pub expr_at-other : (facts : Facts) (here : List Linear) (e : Linear) (label : �
 expr_at-other facts here e label apart =
     elim (cases_Bool (label / 2 ^ 24 == facts.func)) [
       | inl test ↦
-        let func = eqb-true (label / 2 ^ 24) facts.func test in
-        rw test (place_apart facts.items here e (label / 2 ^ 14 % 2 ^ 10) (label % 2 ^ 14) (λ k i. apart (label_parts label facts.func (length facts.items) (length here) func k i)))
+          let func = eqb-true (label / 2 ^ 24) facts.func test in
+          rw test (place_apart facts.items here e (label / 2 ^ 14 % 2 ^ 10) (label % 2 ^ 14) (λ k i. apart (label_parts label facts.func (length facts.items) (length here) func k i)))
       | inr test ↦ rw test refl
     ]
 

@@ -1,5 +1,5 @@
 -- The facts of a function hold in each run.
-use Rattle.std.proofs.Common.{◌≡◌, ℕ, zero, suc, ◌+◌, ◌-◌, ◌*◌, ◌/◌, ◌%◌, ◌^◌, ◌<◌, ◌≤◌, ◌&&◌, List, [], ◌∷◌, ◌++◌, length, get_or, slice_get, Option, Some, None, IfSome, arith, refl, sym, ap, subst, ◌∙◌, true, false, Bool, ◌⊎◌, inl, inr}
+use Rattle.std.proofs.Common.{◌≡◌, ℕ, zero, suc, ◌+◌, ◌/◌, ◌%◌, ◌^◌, ◌<◌, ◌≤◌, List, [], ◌∷◌, ◌++◌, length, get_or, slice_get, Option, Some, None, IfSome, arith, refl, sym, ap, subst, ◌∙◌, true, inl, inr}
 use Rattle.std.proofs.lemmas.Bool.{and_parts}
 use Rattle.std.proofs.lemmas.List.{length_push}
 use Rattle.std.specs.List.{list_all}
@@ -15,7 +15,7 @@ use Rattle.mlir_ir.specs.Words.{bits_of}
 use Rattle.fresh_scev.specs.declared.facts.Facts.{Facts}
 use Rattle.fresh_scev.specs.Linear.{Linear, symbol_expr}
 use Rattle.fresh_scev.specs.Fresh.{expr_at, with_item, next_label, kind_expr, with_result, with_results, with_ops, with_items, arg_exprs, items_of, facts_of}
-use Rattle.fresh_scev.specs.Run.{IsComputed, AreComputed, RunsOps, RunsItems, IsRun}
+use Rattle.fresh_scev.specs.Run.{AreComputed, RunsOps, RunsItems, IsRun}
 use Rattle.fresh_scev.specs.Straight.{holds_no_region, item_holds_no_region, is_straight_line, HaveLabels}
 use Rattle.fresh_scev.specs.Values.{value}
 use Rattle.fresh_scev.proofs.Limits.{limits}

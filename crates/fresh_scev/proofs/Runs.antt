@@ -1,8 +1,8 @@
 -- In a run the number of each value is the value of its expression.
-use Rattle.std.proofs.Common.{◌≡◌, ℕ, zero, suc, ◌+◌, ◌-◌, ◌*◌, ◌/◌, ◌%◌, ◌^◌, ◌<◌, ◌≤◌, ◌==◌, ◌&&◌, List, [], ◌∷◌, ◌++◌, length, get_or, slice_get, Option, Some, None, if◌then◌else◌, arith, refl, sym, ap, subst, ◌∙◌, true, false, Bool, ◌⊎◌, inl, inr}
-use Rattle.std.proofs.Math.Nat.{add-mod, mod-mod, mod-lt, mod-one, mul_comm, add-zero}
+use Rattle.std.proofs.Common.{◌≡◌, ℕ, ◌+◌, ◌-◌, ◌*◌, ◌%◌, ◌^◌, ◌<◌, ◌≤◌, ◌==◌, ◌&&◌, List, [], ◌∷◌, Option, Some, None, arith, refl, sym, ap, subst, ◌∙◌, true, inl, inr}
+use Rattle.std.proofs.Math.Nat.{add-mod, mod-mod, mod-lt, mod-one, mul_comm}
 use Rattle.std.proofs.lemmas.Bool.{cases_lt, cases_Bool, and_parts, eqb-true}
-use Rattle.std.proofs.lemmas.Nat.{pow_pos, mul-mod_second, mul-mod_first}
+use Rattle.std.proofs.lemmas.Nat.{pow_pos, mul-mod_second}
 use Rattle.arith_word.specs.declared.op.BinOp.{BinOp}
 use Rattle.arith_word.specs.declared.op.BinOp.TheVariants.{Addi, Subi, Muli, Andi, Ori, Xori, Minsi, Maxsi, Minui, Maxui, Shli, Shrui, Shrsi, Divui, Remui, Divsi, Remsi}
 use Rattle.mlir_ir.specs.declared.types.Kind.{Kind, Const, Bin, Cast, Cmp, Select, Call, If', For, While}

@@ -1,6 +1,6 @@
 -- The rules for expressions keep values.
-use Rattle.std.proofs.Common.{◌≡◌, ℕ, zero, suc, ◌+◌, ◌-◌, ◌*◌, ◌%◌, ◌^◌, ◌<◌, ◌≤◌, ◌==◌, List, [], ◌∷◌, ◌++◌, if◌then◌else◌, arith, refl, sym, ap, subst, ◌∙◌, true, false, Bool, ◌⊎◌, inl, inr}
-use Rattle.std.proofs.Math.Nat.{add-mod, mod-mod, mod-lt, mod-eq_of_lt, mul-add, add-mul, mul-zero, zero-mul, one-mul, mul_assoc, mod_self, mod-one, add-mod_right}
+use Rattle.std.proofs.Common.{◌≡◌, ℕ, zero, suc, ◌+◌, ◌-◌, ◌*◌, ◌%◌, ◌^◌, ◌<◌, ◌≤◌, ◌==◌, List, [], ◌∷◌, ◌++◌, arith, refl, sym, ap, subst, ◌∙◌, true, false, inl, inr}
+use Rattle.std.proofs.Math.Nat.{add-mod, mod-mod, mod-lt, mod-eq_of_lt, mul-add, add-mul, mul-zero, zero-mul, mul_assoc, add-mod_right}
 use Rattle.std.proofs.lemmas.Bool.{cases_lt, ne_eqb, eq-eqb}
 use Rattle.std.proofs.lemmas.Nat.{pow_pos, mul-mod_first, mul-mod_second}
 use Rattle.fresh_scev.specs.declared.expr.Term.{Term}

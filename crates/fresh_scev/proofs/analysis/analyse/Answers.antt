@@ -1,4 +1,4 @@
-use Rattle.std.proofs.Common.{rules, arith, ◌≡◌, ◌%◌, ◌^◌, ◌<◌, IfSome, Some, subst, sym}
+use Rattle.std.proofs.Common.{rules, ◌≡◌, ◌%◌, ◌^◌, ◌<◌, IfSome, subst, sym}
 use Rattle.std.specs.Option.{option_map}
 use Rattle.mlir_ir.specs.Values.{func_values, type_at}
 use Rattle.mlir_ir.specs.Words.{bits_of}

@@ -1,4 +1,4 @@
-use Rattle.std.proofs.Common.{arith, drop, [], subst, List, rules}
+use Rattle.std.proofs.Common.{arith, [], subst, List}
 use Rattle.std.proofs.lemmas.List.{drop_all}
 use Rattle.fresh_scev.specs.declared.expr.Term.{Term}
 use Rattle.fresh_scev.proofs.Merge.{Merging, step_multiple, multiplied, multiplied_at}
