@@ -80,11 +80,11 @@ items_named k (item ∷ items) name h =
     let value = plain_value (label_at 0 k 0) item plain in
     ap (λ vs. option_map (λ v. v.label) (find (defines name) vs)) (items_first k item items plain)
     ∙ rw
-      (item_name_plain item plain)
-      (elim (bytes_eq plain.pack.name name) as (λ b. option_map (λ v. v.label) (cond (b && true) (Some value) (find (defines name) (items_values 0 (k + 1) items))) ≡ option_map (λ i. i * 2 ^ 14) (cond b (Some k) (position_from (λ i. bytes_eq (item_name i) name) (k + 1) items))) [
-        | true ↦ ap Some (omega arith)
-        | false ↦ rest
-      ])
+    (item_name_plain item plain)
+    (elim (bytes_eq plain.pack.name name) as (λ b. option_map (λ v. v.label) (cond (b && true) (Some value) (find (defines name) (items_values 0 (k + 1) items))) ≡ option_map (λ i. i * 2 ^ 14) (cond b (Some k) (position_from (λ i. bytes_eq (item_name i) name) (k + 1) items))) [
+      | true ↦ ap Some (omega arith)
+      | false ↦ rest
+    ])
 
 find-both : (p : Value → Bool) (xs ys : List Value) → option_map (λ v. v.label) (find p (xs ++ ys)) ≡ option_or (option_map (λ v. v.label) (find p xs)) (option_map (λ v. v.label) (find p ys))
 find-both p [] ys = refl
@@ -138,10 +138,11 @@ nth_one (u ∷ values) x v apart e place =
           let other = among values x v (λ w. w.name ≢ u.name) later apart.0 in
           rw (bytes_ne u.name v.name (λ h. other (sym h))) (zero-add _ ∙ nth_one values x v apart.1 later place)
     ])
-      e
+    e
   where
     some_inj : (a b : Value) → Some a ≡ Some b → a ≡ b
     some_inj a b same = cc
+
     first : u ≡ v → cond (counts v u) 1 0 + count_by (counts v) values ≡ 1
     first same =
         let Q : Value → Type 0 = λ w. cond (counts w u) 1 0 + count_by (counts w) values ≡ 1 in

@@ -174,7 +174,7 @@ items_apart k scope (item ∷ items) sound apart =
     let new = free_pack scope plain.pack (subst (λ packs. are_free scope packs ≡ true) plain.packs typed.0) in
     let here : AreApart (scope ++ value ∷ []) = apart-push scope value apart new in
     let later : AreApart ((scope ++ value ∷ []) ++ items_values 0 (k + 1) items) =
-      items_apart (k + 1) (scope ++ value ∷ []) items (subst (λ vs. AreSoundItems (k + 1) (scope ++ vs) items) (results_of_plain (label_at 0 k 0) item plain) sound.1) here in
+    items_apart (k + 1) (scope ++ value ∷ []) items (subst (λ vs. AreSoundItems (k + 1) (scope ++ vs) items) (results_of_plain (label_at 0 k 0) item plain) sound.1) here in
     subst AreApart (append_assoc scope (value ∷ []) (items_values 0 (k + 1) items) ∙ ap (λ vs. scope ++ vs) (sym (items_first k item items plain))) later
 
 -- arguments whose names are free one after the other, at most 16 of them

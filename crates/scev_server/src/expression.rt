@@ -61,7 +61,13 @@ fn push_more(out: &mut String, func: &Func, w: Width, terms: &[Term]) -> Result<
 }
 
 /// Adds the terms behind a number, which is written where it isn't 0 or stands alone.
-fn push_sum(out: &mut String, func: &Func, w: Width, number: u64, terms: &[Term]) -> Result<(), AllocError>
+fn push_sum(
+    out: &mut String,
+    func: &Func,
+    w: Width,
+    number: u64,
+    terms: &[Term],
+) -> Result<(), AllocError>
     requires plain { IsPlainFunc func.now }
     requires number { number < 2 ^ w }
     requires below { All (λ term. term.factor < 2 ^ w) terms.now }

@@ -11,6 +11,8 @@ mod session;
 mod small;
 mod standard;
 mod status;
+#[cfg(test)]
+mod tables;
 mod top;
 mod whole;
 

@@ -29,7 +29,12 @@ fn push_scev(out: &mut String, alloc: Global, func: &Func, label: Label) -> Resu
 }
 
 /// Adds the line that answers a command.
-fn push_answer(out: &mut String, alloc: Global, func: &Func, command: &Command) -> Result<(), AllocError>
+fn push_answer(
+    out: &mut String,
+    alloc: Global,
+    func: &Func,
+    command: &Command,
+) -> Result<(), AllocError>
     requires func { IsAnalysable func.now }
     requires named { IsCommand command.now }
     ensures { OnOk result ((line : List ℕ) × Answers func.now command.now line × (string_bytes out.new ≡ string_bytes out.old ++ line)) }
@@ -101,7 +106,13 @@ pub fn output_text<G: Gate>(alloc: Global, input: &Input, gate: &G) -> Result<St
     ensures { IfOk result (λ text. Output input.now (string_bytes text)) }
 {
     let mut out = String::new(alloc);
-    push_parts(&mut out, alloc, &input.func, input.sessions.as_slice(), gate)?;
+    push_parts(
+        &mut out,
+        alloc,
+        &input.func,
+        input.sessions.as_slice(),
+        gate,
+    )?;
     writeln!(out, "== log")?;
     writeln!(out, "== equal")?;
     Ok(out)

@@ -95,6 +95,9 @@ mod tests {
 
     const REFUSAL: &[u8] = b"bad input: not here at 0\n";
 
+    /// An input without a session.
+    const INPUT: &[u8] = b"func.func @f() {\n  return\n}\n";
+
     /// What a call is given: words, bytes, and how the source and the sink behave.
     #[derive(Drop)]
     struct Case<'a> {
@@ -151,7 +154,7 @@ mod tests {
     #[test]
     fn answers_with_ample_memory(rt: HostRuntime) -> Result<(), Fail> {
         let alloc = rt.alloc();
-        let ended = run(&rt, alloc, ample(alloc, Vec::new(alloc)))?;
+        let ended = run(&rt, alloc, ample(alloc, INPUT.to_vec(alloc)?))?;
         expect(&rt, &ended, Status::Done, LINES, (0, 0));
         let ended = run(&rt, alloc, ample(alloc, b"?".to_vec(alloc)?))?;
         expect(&rt, &ended, Status::BadInput, REFUSAL, (0, 0));
@@ -182,11 +185,11 @@ mod tests {
     #[test]
     fn stops_at_a_write_fault(rt: HostRuntime) -> Result<(), Fail> {
         let alloc = rt.alloc();
-        let mut full = ample(alloc, Vec::new(alloc));
+        let mut full = ample(alloc, INPUT.to_vec(alloc)?);
         full.room = 0;
         let ended = run(&rt, alloc, full)?;
         expect(&rt, &ended, Status::WriteFault, b"", (0, 1));
-        let mut failing = ample(alloc, Vec::new(alloc));
+        let mut failing = ample(alloc, INPUT.to_vec(alloc)?);
         failing.write_faults = &[2];
         failing.piece = 3;
         let ended = run(&rt, alloc, failing)?;
@@ -197,7 +200,7 @@ mod tests {
     #[test]
     fn writes_byte_by_byte(rt: HostRuntime) -> Result<(), Fail> {
         let alloc = rt.alloc();
-        let mut case = ample(alloc, Vec::new(alloc));
+        let mut case = ample(alloc, INPUT.to_vec(alloc)?);
         case.piece = 1;
         let ended = run(&rt, alloc, case)?;
         expect(&rt, &ended, Status::Done, LINES, (0, 0));
