@@ -1,0 +1,6 @@
+use Rattle.std.proofs.Common.{◌≡◌, ◌*◌, ◌%◌, ◌^◌}
+use Rattle.scev_binom.specs.Binomial.{binomial, factorial}
+use Rattle.scev_binom.proofs.binomial.choose.Given as goal
+
+abbrev pub invariant-loop-i : goal.invariant-loop-i
+invariant-loop-i l = l.falling ≡ (binomial l.n l.i * factorial l.i) % 2 ^ 128
