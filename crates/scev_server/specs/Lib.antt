@@ -2,3 +2,5 @@ pub mod Bytes
 pub mod Faults
 pub mod Memory
 pub mod Input
+pub mod Guess
+pub mod Scope

@@ -4,6 +4,7 @@
 mod input;
 mod memory;
 mod outside;
+mod small;
 mod standard;
 mod whole;
 

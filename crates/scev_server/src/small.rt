@@ -1,0 +1,6 @@
+//! The reader of small inputs: an input is guessed of the words of its bytes, printed again and
+//! compared with them.
+
+mod leaf;
+mod scope;
+mod words;
