@@ -1,7 +1,10 @@
-ghost use Rattle.std.specs.Prelude.{◌≡◌, ℕ, ◌≤◌, ◌==◌, IfOk, drop};
+ghost use Rattle.std.specs.Prelude.{◌≡◌, ℕ, ◌≤◌, ◌==◌, ◌-◌, ◌%◌, ◌^◌, IfOk, drop};
 ghost use Rattle.std.specs.List.{list_all};
 ghost use Rattle.mlir_ir.specs.Names.{is_digit, is_letter, is_name_byte};
 ghost use Rattle.scev_server.specs.Guess.{begins, text_of, name_of, type_of, as_width, op_of, digits_behind, number_of};
+
+ghost use Rattle.mlir_ir.specs.Words.{bits_of};
+ghost use Rattle.mlir_ir.specs.declared.types.IrType.TheVariants.{Int};
 
 use arith_word::{BinOp, Text, Width, neg};
 use mlir_ir::IrType;
@@ -111,13 +114,29 @@ fn digits(word: &[u8]) -> u64
     number
 }
 
-/// The unsigned reading of a signed number of that width.
-pub fn number_at(width: Width, word: &[u8]) -> u64
-    ensures { result ≡ number_of width word.now }
+fn negated(ty: IrType, number: u64) -> u64
+    ensures { result ≡ (2 ^ bits_of ty - number % 2 ^ bits_of ty) % 2 ^ bits_of ty }
+{
+    match ty {
+        IrType::Int(width) => neg(width, number),
+        IrType::Index => 0u64.wrapping_sub(number),
+    }
+}
+
+/// The unsigned reading of a signed number of that type.
+pub fn number_at(ty: IrType, word: &[u8]) -> u64
+    ensures { result ≡ number_of (bits_of ty) word.now }
 {
     if begins_with(word, b'-') {
-        neg(width, digits(unmarked(word)))
+        negated(ty, digits(unmarked(word)))
     } else {
         digits(word)
     }
+}
+
+/// The type `i1`.
+pub fn truth_type() -> IrType
+    ensures { result ≡ Int 1 }
+{
+    width_type(1)
 }
