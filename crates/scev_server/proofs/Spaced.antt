@@ -7,13 +7,10 @@ use Rattle.std.proofs.lemmas.List.{append-nil}
 use Rattle.std.proofs.lemmas.List.Splits.{slice_split_at, slice_split-cons_yes, slice_split-cons_no, length-slice_split}
 use Rattle.std.proofs.lemmas.List.Elements.{All-nil, All-cons, filter-append}
 use Rattle.mlir_ir.specs.Canonical.{joined, behind_commas}
-use Rattle.scev_server.specs.Guess.{is_gap, words_of}
+use Rattle.scev_server.specs.Guess.{is_gap, is_full, words_of}
 
 abbrev pub is_free : List ℕ → Bool
 is_free bs = list_all (λ b. not (is_gap b)) bs
-
-abbrev pub is_full : List ℕ → Bool
-is_full w = not (length w == 0)
 
 -- a word of a text
 pub record IsWord (w : List ℕ) : Type 0 where
@@ -70,8 +67,46 @@ word_before w h g k =
 
 -- texts, each with its words
 abbrev pub AreRead : {A : Type 0} → (A → List ℕ) → (A → List (List ℕ)) → List A → Type 0
-AreRead text words xs = All (λ x. ReadsBefore (text x) (words x)) xs
+AreRead text words [] = Unit {0}
+AreRead text words (x ∷ xs) = ReadsBefore (text x) (words x) × AreRead text words xs
 
--- texts parted by a comma and a blank
 joined_more : (t u : List ℕ) (us : List (List ℕ)) (g : ℕ) → joined (t ∷ u ∷ us) ++ g ∷ [] ≡ (t ++ 44 ∷ []) ++ (32 ∷ []) ++ (joined (u ∷ us) ++ g ∷ [])
 joined_more t u us g = simp append_assoc refl
+
+-- texts parted by a comma and a blank
+pub joined_before : {A : Type 0} (text : A → List ℕ) (words : A → List (List ℕ)) (xs : List A) → AreRead text words xs → ReadsBefore (joined (map text xs)) (flat_map words xs)
+joined_before text words [] h g k rest = reads_gap g k rest
+joined_before text words (x ∷ []) h g k rest =
+    ap (λ t. words_of (t ++ g ∷ [] ++ rest)) (append-nil (text x)) ∙ h.0 g k rest ∙ ap (λ w. w ++ words_of rest) (sym (append-nil (words x)))
+joined_before text words (x ∷ y ∷ ys) h g k rest =
+    ap (λ t. words_of (t ++ rest)) (joined_more (text x) (text y) (map text ys) g)
+    ∙ reads_both
+      (text x ++ 44 ∷ [] ++ 32 ∷ [])
+      (joined (map text (y ∷ ys)) ++ g ∷ [])
+      (words x ++ [])
+      (flat_map words (y ∷ ys))
+      (reads_both (text x ++ 44 ∷ []) (32 ∷ []) (words x) [] (h.0 44 refl) (reads_gap 32 refl))
+      (joined_before text words (y ∷ ys) h.1 g k)
+      rest
+    ∙ ap (λ w. w ++ flat_map words (y ∷ ys) ++ words_of rest) (append-nil (words x))
+
+-- a split has a part
+split_some : (bs : List ℕ) → 0 < length (slice_split is_gap bs)
+split_some bs = let e = length-slice_split is_gap bs in omega arith
+
+onto_end : (x : ℕ) (parts : List (List ℕ)) (last : List ℕ) → 0 < length parts → onto_first x (parts ++ last ∷ []) ≡ onto_first x parts ++ last ∷ []
+onto_end x [] last h = absurd (omega arith)
+onto_end x (p ∷ ps) last h = refl
+
+end_cases : (c : Bool) (b : ℕ) (old new : List (List ℕ)) → 0 < length old → new ≡ old ++ [] ∷ [] → cond c ([] ∷ new) (onto_first b new) ≡ cond c ([] ∷ old) (onto_first b old) ++ [] ∷ []
+end_cases true b old new h e = ap (λ ps. [] ∷ ps) e
+end_cases false b old new h e = ap (onto_first b) e ∙ onto_end b old [] h
+
+split_end : (bs : List ℕ) (g : ℕ) → is_gap g ≡ true → slice_split is_gap (bs ++ g ∷ []) ≡ slice_split is_gap bs ++ [] ∷ []
+split_end [] g h = slice_split-cons_yes is_gap g [] h
+split_end (b ∷ bs) g h = end_cases (is_gap b) b (slice_split is_gap bs) (slice_split is_gap (bs ++ g ∷ [])) (split_some bs) (split_end bs g h)
+
+-- a gap at the end of a text adds no word
+pub words_end : (bs : List ℕ) (g : ℕ) → is_gap g ≡ true → words_of (bs ++ g ∷ []) ≡ words_of bs
+words_end bs g h =
+    ap (filter is_full) (split_end bs g h) ∙ filter-append is_full (slice_split is_gap bs) ([] ∷ []) ∙ append-nil (words_of bs)

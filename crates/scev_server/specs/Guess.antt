@@ -1,5 +1,5 @@
 -- What a reader guesses of a text by its words. A guess need not be right: it is printed and compared.
-use Rattle.std.specs.Prelude.{ℕ, zero, suc, ◌+◌, ◌-◌, ◌*◌, ◌%◌, ◌^◌, ◌==◌, ◌||◌, ◌&&◌, Bool, true, false, not, ◌≡◌, List, [], ◌∷◌, Option, Some, None, length, drop, codes, nat_lt, slice_index, slice_index_or, if◌then◌else◌}
+use Rattle.std.specs.Prelude.{ℕ, zero, suc, ◌+◌, ◌-◌, ◌*◌, ◌%◌, ◌^◌, ◌==◌, ◌||◌, ◌&&◌, Bool, true, false, ◌≡◌, List, [], ◌∷◌, Option, Some, None, length, drop, codes, nat_lt, slice_index, slice_index_or, if◌then◌else◌}
 use Rattle.std.specs.Str.{bytes_eq}
 use Rattle.std.specs.List.{slice_split, filter, list_all}
 use Rattle.arith_word.specs.declared.op.BinOp.{BinOp}
@@ -28,9 +28,13 @@ use Rattle.scev_server.specs.declared.small.guess.Shape.TheVariants.{Truth, Numb
 abbrev pub is_gap : ℕ → Bool
 is_gap b = b == 32 || b == 10 || b == 44 || b == 58 || b == 40 || b == 41
 
+abbrev pub is_full : List ℕ → Bool
+is_full [] = false
+is_full (b ∷ bs) = true
+
 -- the words of a text
 abbrev pub words_of : List ℕ → List (List ℕ)
-words_of bytes = filter (λ word. not (length word == 0)) (slice_split is_gap bytes)
+words_of bytes = filter is_full (slice_split is_gap bytes)
 
 -- the word at a place, empty behind the last
 abbrev pub word : List (List ℕ) → ℕ → List ℕ

@@ -4,3 +4,4 @@ pub mod Memory
 pub mod Input
 pub mod Guess
 pub mod Scope
+pub mod Reading

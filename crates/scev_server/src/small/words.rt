@@ -1,7 +1,7 @@
 ghost use Rattle.std.specs.Prelude.{◌≡◌, IfOk, map, drop, slice_index_or, []};
 ghost use Rattle.std.specs.List.{list_all};
 ghost use Rattle.mlir_ir.specs.Names.{is_digit, is_letter, is_name_byte, is_name};
-ghost use Rattle.scev_server.specs.Guess.{is_gap, words_of, word};
+ghost use Rattle.scev_server.specs.Guess.{is_gap, is_full, words_of, word};
 
 use std::alloc::{AllocError, Global};
 use std::marker::Model;
@@ -30,12 +30,21 @@ pub fn is_gap_byte(byte: u8) -> bool
     byte == b' ' || byte == b'\n' || byte == b',' || byte == b':' || byte == b'(' || byte == b')'
 }
 
+fn is_full_word(word: &[u8]) -> bool
+    ensures { result ≡ is_full word.now }
+{
+    match word {
+        [] => false,
+        [_, ..] => true,
+    }
+}
+
 fn words_in<'a>(alloc: Global, bytes: &'a [u8]) -> Result<Vec<&'a [u8]>, AllocError>
     ensures { IfOk result (λ v. map (λ w. w.now) v.items ≡ words_of bytes.now) }
 {
     bytes
         .split(|b| is_gap_byte(*b))
-        .filter(|word| !word.is_empty())
+        .filter(|word| is_full_word(word))
         .collect(alloc)
 }
 
