@@ -11,10 +11,10 @@ use Rattle.mlir_ir.specs.Canonical.{Naming, use_text, value_text, used_type}
 use Rattle.mlir_ir.specs.Names.{is_name}
 use Rattle.mlir_ir.specs.Values.{Value, value_at, type_at}
 use Rattle.mlir_ir.specs.Words.{type_text}
-use Rattle.scev_server.specs.Guess.{defined, use_of}
+use Rattle.scev_server.specs.Guess.{begins, defined, use_of}
 use Rattle.scev_server.specs.Reading.{IsType}
 use Rattle.scev_server.proofs.Spaced.{IsWord}
-use Rattle.scev_server.proofs.Texts.{value_word, IsTypeWord, type_again}
+use Rattle.scev_server.proofs.Texts.{value_word, IsTypeWord, type_again, type_no_value}
 
 -- a value that a use may name
 pub record IsNamed (v : Value) : Type 0 where
@@ -84,9 +84,10 @@ agrees_none label v h = cc
 -- what a use of a value says
 pub record IsUseWord (naming : Naming) (scope : List ℕ → ℕ) (label : Label) : Type 0 where
   pub is_word : IsWord (use_text naming label)
-  pub begun : (rest : List ℕ) × (use_text naming label ≡ 37 ∷ rest)
+  pub begun : begins 37 (use_text naming label) ≡ true
   pub again : use_of scope (use_text naming label) ≡ label
   pub typed : IsWord (used_type naming label)
+  pub typed_begun : begins 37 (used_type naming label) ≡ false
 
 value_text_is : (v : Value) → v.count ≡ 1 → value_text v ≡ 37 ∷ v.name
 value_text_is v e = rw e (ap (λ t. 37 ∷ t) (append-nil v.name))
@@ -100,7 +101,8 @@ use_word naming scope vs more label whole a h =
     let t : used_type naming label ≡ type_text v.ty = ap (λ o. option_map_or type_text (option_map (λ w. w.ty) o) []) found in
     record {
       is_word = rw e (value_word v.name k.named.name);
-      begun = (v.name, e);
+      begun = ap (begins 37) e;
       again = ap (use_of scope) e ∙ ap (λ n. record { 0 = n }) k.known;
       typed = rw t (type_again v.ty k.named.typed).is_word;
+      typed_begun = ap (begins 37) t ∙ type_no_value v.ty;
     }

@@ -106,3 +106,7 @@ op_again Addi h = record { is_word = record { free = refl; full = refl }; again 
 op_again Subi h = record { is_word = record { free = refl; full = refl }; again = refl }
 op_again Muli h = record { is_word = record { free = refl; full = refl }; again = refl }
 op_again _ h = absurd h
+
+pub type_no_value : (ty : IrType) → begins 37 (type_text ty) ≡ false
+type_no_value (Int w) = refl
+type_no_value Index = refl
