@@ -3,3 +3,5 @@ pub mod Labels
 pub mod Values
 pub mod Words
 pub mod Canonical
+pub mod Rules
+pub mod Check

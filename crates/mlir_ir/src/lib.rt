@@ -2,10 +2,14 @@
 //! the definitions of their canonical text and of a well-formed function.
 #![tactic(auto)]
 
+mod count;
 mod module;
+mod rules;
+mod shape;
 mod types;
 
 pub use module::Module;
+pub use shape::{Shape, ShapeFault};
 pub use types::{
     Arg, Body, Flags, ForParts, Func, IrType, Item, Kind, Op, Pack, Region, WhileParts,
 };
