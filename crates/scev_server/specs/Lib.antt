@@ -5,3 +5,4 @@ pub mod Input
 pub mod Guess
 pub mod Scope
 pub mod Reading
+pub mod Printed

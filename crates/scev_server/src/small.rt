@@ -3,5 +3,6 @@
 
 mod guess;
 mod leaf;
+mod print;
 mod scope;
 mod words;
