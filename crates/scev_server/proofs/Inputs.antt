@@ -11,7 +11,7 @@ use Rattle.mlir_ir.specs.declared.types.IrType.{IrType}
 use Rattle.mlir_ir.specs.Canonical.{Naming, line, joined, arg_text, arrow_text, types_text, use_text, used_type, uses_text, used_types, ends_text, items_text, naming_of, body_text, func_text, module_text, bracketed, head_text}
 use Rattle.mlir_ir.specs.Labels.{label_at}
 use Rattle.mlir_ir.specs.Names.{is_name}
-use Rattle.mlir_ir.specs.Values.{Value, arg_values, body_values, items_values, func_values}
+use Rattle.mlir_ir.specs.Values.{Value, type_at, arg_values, body_values, items_values, func_values}
 use Rattle.mlir_ir.specs.Words.{type_text}
 use Rattle.scev_server.specs.Guess.{Row, Defs, Part, IsRow, IsDefs, IsPart, word, begins, row_of, name_of, type_of, types_of, behind_arrow, args_of, items_of, uses_of, use_of, body_of, func_of}
 use Rattle.scev_server.specs.Reading.{IsType}
@@ -30,6 +30,12 @@ abbrev pub AreIn : List Value → List Label → Type 0
 AreIn vs [] = Unit {0}
 AreIn vs (label ∷ labels) = IsIn vs label × AreIn vs labels
 
+-- values have these types
+abbrev pub AreOf : List Value → List Label → List IrType → Type 0
+AreOf vs [] [] = Unit {0}
+AreOf vs (label ∷ labels) (ty ∷ tys) = (type_at vs label.0 ≡ Some ty) × AreOf vs labels tys
+AreOf vs _ _ = ⊥
+
 -- a function whose text is read again
 pub record IsReadFunc (f : Func) : Type 0 where
   pub first : f.index ≡ 0
@@ -45,6 +51,7 @@ pub record IsReadFunc (f : Func) : Type 0 where
   pub few_items : length body.items ≤ 1023
   pub uses : AreIn (arg_values 0 f.args ++ items_values 0 1 body.items) body.ret
   pub few_uses : length body.ret ≤ 16
+  pub typed : AreOf (arg_values 0 f.args ++ items_values 0 1 body.items) body.ret f.results
 
 -- result types
 
@@ -220,7 +227,7 @@ func_is_read f r =
     ∙ ap (λ p. record { index = f.index; name = f.name; private = p; args = f.args; results = f.results; body = Some r.body }) (sym r.public)
     ∙ ap (λ b. record { index = f.index; name = f.name; private = f.private; args = f.args; results = f.results; body = b }) (sym r.is_body)
 
-values_of : (f : Func) → (r : IsReadFunc f) → func_values f ≡ arg_values 0 f.args ++ items_values 0 1 r.body.items
+pub values_of : (f : Func) → (r : IsReadFunc f) → func_values f ≡ arg_values 0 f.args ++ items_values 0 1 r.body.items
 values_of f r = ap (λ i. arg_values (label_at i 0 0) f.args ++ body_values i f.body) r.first ∙ ap (λ b. arg_values 0 f.args ++ body_values 0 b) r.is_body
 
 body_split : (is us ts rest : List (List ℕ)) → (is ++ ((codes "return" ∷ (us ++ ts)) ++ codes "}" ∷ [])) ++ rest ≡ is ++ (codes "return" ∷ (us ++ (ts ++ codes "}" ∷ rest)))
@@ -267,12 +274,12 @@ body_again naming scope after vs body words rest whole a h few items =
     (sym (drop_over (used_type naming) body.ret (codes "}") rest))
 
 -- the text of a function
-abbrev func_lines : Naming → Func → Body → List ℕ
+abbrev pub func_lines : Naming → Func → Body → List ℕ
 func_lines naming f body =
     (codes "func.func " ++ [] ++ codes "@" ++ f.name ++ (codes "(" ++ joined (map arg_text f.args) ++ codes ")") ++ arrow_text f.results ++ codes " {" ++ 10 ∷ [])
     ++ (items_text naming body.items ++ (line 1 (codes "return" ++ ends_text naming body.ret) ++ (codes "}" ++ 10 ∷ [])))
 
-lines_are : (names : List (List ℕ)) (f : Func) → (r : IsReadFunc f) → func_text names f ≡ func_lines (naming_of names f) f r.body
+pub lines_are : (names : List (List ℕ)) (f : Func) → (r : IsReadFunc f) → func_text names f ≡ func_lines (naming_of names f) f r.body
 lines_are names f r =
     let naming = naming_of names f in
     ap (body_text naming f) r.is_body

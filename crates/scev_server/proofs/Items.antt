@@ -62,7 +62,7 @@ values_are vs k item r =
 packs_are : (pack : Pack) → pack.count ≡ 1 → packs_text (pack ∷ []) ≡ 37 ∷ pack.name ++ codes " = "
 packs_are pack c = rw c (ap (λ n. 37 ∷ (n ++ codes " = ")) (append-nil (pack.name ++ []) ∙ append-nil pack.name))
 
-item_text_is : (naming : Naming) (vs : List Value) (item : Item) → (r : IsReadItem vs item) → ops_text naming item.ops ≡ named_line r.pack.name (simple_text naming (r.ty ∷ []) r.op.kind)
+pub item_text_is : (naming : Naming) (vs : List Value) (item : Item) → (r : IsReadItem vs item) → ops_text naming item.ops ≡ named_line r.pack.name (simple_text naming (r.ty ∷ []) r.op.kind)
 item_text_is naming vs item r =
     ap (ops_text naming) r.ops
     ∙ append-nil (op_text naming 1 (packs_text r.op.packs) r.op.results r.op.kind)

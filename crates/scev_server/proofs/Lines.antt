@@ -141,7 +141,7 @@ no_constant Subi h = refl
 no_constant Muli h = refl
 no_constant _ h = absurd h
 
-no_flags : (flags : Flags) → flags.nsw ≡ false → flags.nuw ≡ false → flags_text flags ≡ []
+pub no_flags : (flags : Flags) → flags.nsw ≡ false → flags.nuw ≡ false → flags_text flags ≡ []
 no_flags flags s u = rw (s, u) refl
 
 flags_are : (flags : Flags) → flags.nsw ≡ false → flags.nuw ≡ false → ◌≡◌ {A = Flags} (record { nsw = false; nuw = false }) flags

@@ -37,10 +37,10 @@ IsFresh vs name = (label : ℕ) (v : Value) → value_at vs label ≡ Some v →
 abbrev pub IsIn : List Value → Label → Type 0
 IsIn vs label = (v : Value) × (value_at vs label.0 ≡ Some v)
 
-eqb_true : (a b : ℕ) → (a == b) ≡ true → a ≡ b
+pub eqb_true : (a b : ℕ) → (a == b) ≡ true → a ≡ b
 eqb_true a b h = eqb-true a b h
 
-last_cases : (b : Bool) (u v : Value) (old : Option Value) → cond b (Some u) old ≡ Some v → ((b ≡ true) × (u ≡ v)) ⊎ ((b ≡ false) × (old ≡ Some v))
+pub last_cases : (b : Bool) (u v : Value) (old : Option Value) → cond b (Some u) old ≡ Some v → ((b ≡ true) × (u ≡ v)) ⊎ ((b ≡ false) × (old ≡ Some v))
 last_cases true u v old h = inl (refl, cc)
 last_cases false u v old h = inr (refl, h)
 
@@ -89,7 +89,7 @@ pub record IsUseWord (naming : Naming) (scope : List ℕ → ℕ) (label : Label
   pub typed : IsWord (used_type naming label)
   pub typed_begun : begins 37 (used_type naming label) ≡ false
 
-value_text_is : (v : Value) → v.count ≡ 1 → value_text v ≡ 37 ∷ v.name
+pub value_text_is : (v : Value) → v.count ≡ 1 → value_text v ≡ 37 ∷ v.name
 value_text_is v e = rw e (ap (λ t. 37 ∷ t) (append-nil v.name))
 
 pub use_word : (naming : Naming) (scope : List ℕ → ℕ) (vs more : List Value) (label : Label) → naming.values ≡ vs ++ more → Agrees scope vs → IsIn vs label → IsUseWord naming scope label
