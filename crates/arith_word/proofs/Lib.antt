@@ -1,1 +1,4 @@
 pub mod Residues
+pub mod Newton
+pub mod LowestOne
+pub mod Signs

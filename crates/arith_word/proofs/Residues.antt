@@ -1,5 +1,5 @@
 -- Residues modulo a power of 2, as masks of words of 64 bits give them.
-use Rattle.std.proofs.Common.{◌≡◌, ℕ, ◌+◌, ◌-◌, ◌*◌, ◌%◌, ◌/◌, ◌^◌, ◌<◌, ◌≤◌, ap, ◌∙◌, sym, subst, arith}
+use Rattle.std.proofs.Common.{◌≡◌, ℕ, ◌+◌, ◌-◌, ◌*◌, ◌%◌, ◌/◌, ◌^◌, ◌<◌, ◌≤◌, refl, ap, ◌∙◌, sym, subst, arith}
 use Rattle.std.proofs.lemmas.Nat.{and_mask, pow-add, mod-pow-add, mod_low, mod_below, pow_pos, div-add-mod', div_below}
 use Rattle.std.proofs.Math.Nat.{add-mul-mod_self_left}
 use Rattle.std.specs.Prelude.{bit_and}
@@ -28,7 +28,7 @@ pow_parts w n h =
     let q : 2 ^ w * d ≡ 2 ^ w * (1 + (d - 1)) = ap (λ k. 2 ^ w * k) s in
     (d - 1, p ∙ (q ∙ omega arith))
 
-times_split : (m q c : ℕ) → q ≤ c → m * c ≡ m * q + m * (c - q)
+pub times_split : (m q c : ℕ) → q ≤ c → m * c ≡ m * q + m * (c - q)
 times_split m q c h = let e : c ≡ q + (c - q) = omega arith in ap (λ x. m * x) e ∙ omega arith
 
 -- what is missing to 2 ^ 64 is what is missing to 2 ^ w, modulo 2 ^ w
@@ -49,3 +49,6 @@ minus_parts a b w h lt =
 
 pub masked_minus : (a b w m : ℕ) → w ≤ 64 → b < 2 ^ 64 → m + 1 ≡ 2 ^ w → bit_and ((a + (2 ^ 64 - b)) % 2 ^ 64) m ≡ (a + (2 ^ w - b % 2 ^ w)) % 2 ^ w
 masked_minus a b w m h lt e = masked (a + (2 ^ 64 - b)) w m h e ∙ minus_parts a b w h lt
+
+pub low_bits_are : (a w m : ℕ) → m + 1 ≡ 2 ^ w → bit_and a m ≡ a % 2 ^ w
+low_bits_are a w m e = let e' : m ≡ 2 ^ w - 1 = omega arith in rw (e', and_mask) refl

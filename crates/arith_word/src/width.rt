@@ -44,6 +44,7 @@ impl Width {
     /// The greatest number of this width, 2 to the width less 1.
     pub fn mask(self) -> u64
         ensures value { result + 1 ≡ 2 ^ self }
+        ensures at_least { 1 ≤ self }
         ensures at_most { self ≤ 64 }
     {
         if self.bits == 64 {

@@ -45,11 +45,18 @@ pub fn neg(w: Width, a: u64) -> u64
 pub fn signed(x: Word) -> i64
     ensures { result ≡ signed_reading x.w x.v }
 {
-    let bits = x.w.bits();
-    let half = 1u64 << (bits - 1);
-    if x.v < half {
-        x.v as i64
+    reading(x.w, x.v)
+}
+
+/// The signed reading of a number of `w` bits.
+pub(crate) fn reading(w: Width, v: u64) -> i64
+    requires { v < 2 ^ w }
+    ensures { result ≡ signed_reading w v }
+{
+    let half = 1u64 << (w.bits() - 1);
+    if v < half {
+        v as i64
     } else {
-        -1 - (x.w.mask() - x.v) as i64
+        -1 - (w.mask() - v) as i64
     }
 }

@@ -5,3 +5,5 @@ pub mod Words
 pub mod Canonical
 pub mod Rules
 pub mod Check
+pub mod Scope
+pub mod Outer

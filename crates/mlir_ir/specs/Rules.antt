@@ -56,11 +56,10 @@ is_free scope name = is_name name && not (has_name scope name)
 abbrev pub is_short : List ℕ → Bool
 is_short name = nat_le (length name) name_limit
 
--- whether the packs of one operation may have their names: in scope, besides, are those before
-abbrev pub are_free : List Value → List (List ℕ) → List Pack → Bool
-are_free scope before [] = true
-are_free scope before (pack ∷ packs) =
-    is_free scope pack.name && not (list_any (λ name. bytes_eq name pack.name) before) && are_free scope (pack.name ∷ before) packs
+-- whether the packs of one operation may have their names, which differ too
+abbrev pub are_free : List Value → List Pack → Bool
+are_free scope [] = true
+are_free scope (pack ∷ packs) = is_free scope pack.name && not (list_any (λ other. bytes_eq other.name pack.name) packs) && are_free scope packs
 
 -- uses and types
 
@@ -219,7 +218,7 @@ is_kind_sized regions loops _ = true
 abbrev pub op_rules : List Value → Nest → Position → List Pack → List IrType → Kind → Rules
 op_rules scope nest at packs results kind = record {
     in_scope = are_in_scope scope (operands kind);
-    typed = are_free scope [] packs && is_kind_typed scope results kind;
+    typed = are_free scope packs && is_kind_typed scope results kind;
     counted = packs_hold packs (length results) && is_kind_counted (length results) kind;
     sized =
         list_all (λ pack. is_short pack.name) packs && nat_le (length results) list_limit && nat_lt at.ops op_limit && nest.item_fits && is_kind_sized nest.regions nest.loops kind

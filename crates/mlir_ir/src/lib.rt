@@ -2,13 +2,27 @@
 //! the definitions of their canonical text and of a well-formed function.
 #![tactic(auto)]
 
+mod args;
+mod check;
 mod count;
+mod counted;
+mod fault;
+mod keeps;
+mod lookup;
 mod module;
+mod names;
+mod outer;
+mod position;
 mod rules;
+mod scope;
 mod shape;
+mod typed;
 mod types;
+mod uses;
+mod walk;
 
 pub use module::Module;
+pub use names::is_name;
 pub use shape::{Shape, ShapeFault};
 pub use types::{
     Arg, Body, Flags, ForParts, Func, IrType, Item, Kind, Op, Pack, Region, WhileParts,

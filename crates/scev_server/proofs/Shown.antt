@@ -124,9 +124,7 @@ abbrev binary_text : List ℕ → List ℕ → List ℕ → List ℕ → List �
 binary_text o a b t = o ++ codes " " ++ a ++ codes ", " ++ b ++ codes " : " ++ t
 
 binary_end : (o a b t fs : List ℕ) → fs ≡ [] → binary_text o a b t ≡ o ++ codes " " ++ a ++ codes ", " ++ b ++ fs ++ codes " : " ++ (t ++ [])
-binary_end o a b t fs e =
-    rw e
-    (ap (λ u. o ++ codes " " ++ a ++ codes ", " ++ u ++ codes " : " ++ t) (sym (append-nil b)) ∙ ap (λ u. o ++ codes " " ++ a ++ codes ", " ++ b ++ [] ++ codes " : " ++ u) (sym (append-nil t)) ∙ simp append_assoc refl)
+binary_end o a b t fs e = rw e (simp append-nil refl)
 
 kind_shown : (f : Func) → (r : IsReadFunc f) → (naming : Naming) → naming.values ≡ arg_values 0 f.args ++ items_values 0 1 r.body.items → (vs more : List Value) → arg_values 0 f.args ++ items_values 0 1 r.body.items ≡ vs ++ more → (ty : IrType) (kind : Kind) → IsReadKind vs ty kind →
     printed_kind f ty kind ≡ simple_text naming (ty ∷ []) kind

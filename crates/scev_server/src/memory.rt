@@ -48,6 +48,13 @@ impl MemSource {
         }
     }
 
+    /// The bytes still to come.
+    pub fn rest(&self) -> &[u8]
+        ensures { result.now ≡ self.now.rest }
+    {
+        self.bytes.as_slice().split_at(self.at).1
+    }
+
     /// How many calls have failed.
     pub fn fault_count(&self) -> u64
         ensures { result ≡ self.now.faults }

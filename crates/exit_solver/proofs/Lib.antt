@@ -1,0 +1,4 @@
+pub mod Levels
+pub mod Arcs
+pub mod Distances
+pub mod Readings

@@ -1,0 +1,9 @@
+pub mod Factors
+pub mod Merge
+pub mod Numbers
+pub mod Walks
+pub mod Limits
+pub mod Totals
+pub mod Places
+pub mod Runs
+pub mod Runners

@@ -1,0 +1,117 @@
+-- The limits that a well-formed function keeps.
+use Rattle.std.proofs.Common.{◌≡◌, ℕ, zero, suc, ◌+◌, ◌<◌, ◌≤◌, ◌&&◌, nat_le, nat_lt, Bool, true, false, List, [], ◌∷◌, ◌++◌, length, drop, get_or, Option, Some, None, arith, refl, sym, ap, subst, ◌∙◌}
+use Rattle.std.proofs.lemmas.Bool.{and_parts, leb-true, ltb-true}
+use Rattle.std.specs.List.{AllByRecursion}
+use Rattle.mlir_ir.specs.declared.shape.Shape.{Shape}
+use Rattle.mlir_ir.specs.declared.shape.ShapeFault.{ShapeFault}
+use Rattle.mlir_ir.specs.declared.shape.ShapeFault.TheVariants.{Use, WrongType, Count, Size}
+use Rattle.mlir_ir.specs.declared.rules.Nest.{Nest}
+use Rattle.mlir_ir.specs.declared.rules.Position.{Position}
+use Rattle.mlir_ir.specs.declared.rules.Rules.{Rules}
+use Rattle.mlir_ir.specs.declared.types.Arg.{Arg}
+use Rattle.mlir_ir.specs.declared.types.Body.{Body}
+use Rattle.mlir_ir.specs.declared.types.Func.{Func}
+use Rattle.mlir_ir.specs.declared.types.IrType.{IrType}
+use Rattle.mlir_ir.specs.declared.types.Item.{Item}
+use Rattle.mlir_ir.specs.declared.types.Op.{Op}
+use Rattle.mlir_ir.specs.Labels.{ops_labels, label_at}
+use Rattle.mlir_ir.specs.Values.{Value, arg_values}
+use Rattle.mlir_ir.specs.Rules.{op_rules, arg_rules, head_rules, return_rules, item_limit, label_limit, list_limit}
+use Rattle.mlir_ir.specs.Check.{unless, breaks_at, op_breaks, ops_breaks, items_breaks, args_breaks, body_breaks, breaks, IsWellFormed, past, past_op, past_ops, past_items, past_args, at_item, in_item, op_results, results_of, outer_values, func_begin, is_declaration}
+use Rattle.fresh_scev.specs.Fresh.{items_of}
+use Rattle.fresh_scev.specs.Straight.{HaveLabels}
+
+pub left_none : (xs ys : List Shape) → xs ++ ys ≡ [] → xs ≡ []
+left_none [] ys e = refl
+left_none (x ∷ xs) ys e = absurd (cc)
+
+pub right_none : (xs ys : List Shape) → xs ++ ys ≡ [] → ys ≡ []
+right_none [] ys e = e
+right_none (x ∷ xs) ys e = absurd (cc)
+
+kept : (rule : Bool) (at : ℕ) (fault : ShapeFault) → unless rule at fault ≡ [] → rule ≡ true
+kept true at fault e = refl
+kept false at fault e = absurd (cc)
+
+-- a place without a break keeps all rules
+pub record Keeps (rules : Rules) : Type 0 where
+  pub in_scope : rules.in_scope ≡ true
+  pub typed : rules.typed ≡ true
+  pub counted : rules.counted ≡ true
+  pub sized : rules.sized ≡ true
+
+pub keeps : (at : ℕ) (rules : Rules) → breaks_at at rules ≡ [] → Keeps rules
+keeps at rules e =
+    let a : List Shape = unless rules.in_scope at Use in
+    let b : List Shape = unless rules.typed at WrongType in
+    let c : List Shape = unless rules.counted at Count in
+    let d : List Shape = unless rules.sized at Size in
+    let abc = left_none ((a ++ b) ++ c) d e in
+    let ab = left_none (a ++ b) c abc in
+    record {
+      in_scope = kept rules.in_scope at Use (left_none a b ab);
+      typed = kept rules.typed at WrongType (right_none a b ab);
+      counted = kept rules.counted at Count (right_none (a ++ b) c abc);
+      sized = kept rules.sized at Size (right_none ((a ++ b) ++ c) d e);
+    }
+
+-- an item whose operations have no break is within the limits
+op_fits : (scope : List Value) (nest : Nest) (at : Position) (op : Op) → op_breaks scope nest at op ≡ [] → nest.item_fits ≡ true
+op_fits scope nest at op e =
+    let rules = op_rules scope nest at op.packs op.results op.kind in
+    let sized : rules.sized ≡ true = (keeps at.last rules (left_none (breaks_at at.last rules) _ e)).sized in
+    (and_parts _ nest.item_fits (and_parts _ _ sized).0).1
+
+item_fits : (func k : ℕ) (item : Item) (scope : List Value) (at : Position) → ops_breaks scope (in_item k item) at item.ops ≡ [] → ops_labels item.ops ≤ label_limit
+item_fits func k item scope at e = fits item.ops refl e
+  where
+    fits : (ops : List Op) → item.ops ≡ ops → ops_breaks scope (in_item k item) at ops ≡ [] → ops_labels item.ops ≤ label_limit
+    fits [] same e = rw same (omega arith)
+    fits (op ∷ ops) same e =
+        let ok : (nat_le k item_limit && nat_le (ops_labels item.ops) label_limit) ≡ true = op_fits scope (in_item k item) at op (left_none (op_breaks scope (in_item k item) at op) _ e) in
+        leb-true (ops_labels item.ops) label_limit (and_parts (nat_le k item_limit) (nat_le (ops_labels item.ops) label_limit) ok).1
+
+items_fit : (func k : ℕ) (scope : List Value) (at : Position) (items : List Item) → items_breaks func k scope at items ≡ [] → HaveLabels items
+items_fit func k scope at [] e = tt
+items_fit func k scope at (item ∷ items) e =
+    (item_fits func k item scope (at_item func k at) (left_none (ops_breaks scope (in_item k item) (at_item func k at) item.ops) _ e),
+    items_fit func (k + 1) (scope ++ results_of (label_at func k 0) item.ops) (past_ops item.ops (at_item func k at)) items (right_none (ops_breaks scope (in_item k item) (at_item func k at) item.ops) _ e))
+
+args_fit : (declared : Bool) (n : ℕ) (wanted : List IrType) (scope : List Value) (at : Position) (args : List Arg) → n ≤ list_limit → args_breaks declared n wanted scope at args ≡ [] → n + length args ≤ list_limit
+args_fit declared n wanted scope at [] le e = omega arith
+args_fit declared n wanted scope at (arg ∷ args) le e =
+    let rules = arg_rules declared n wanted scope arg in
+    let sized : rules.sized ≡ true = (keeps at.last rules (left_none (breaks_at at.last rules) _ e)).sized in
+    let lt : n < list_limit = ltb-true n list_limit (and_parts _ (nat_lt n list_limit) sized).1 in
+    omega (arith, args_fit declared (n + 1) (drop 1 wanted) (scope ++ arg_values at.next (arg ∷ [])) (past 1 0 at) args (omega arith) (right_none (breaks_at at.last rules) _ e))
+
+body_limits : (f : Func) (body : Option Body) → body_breaks f body ≡ [] → (length (items_of body) ≤ item_limit) × HaveLabels (items_of body)
+body_limits f None e = (omega arith, tt)
+body_limits f (Some body) e =
+    let begin = past_args f.args (func_begin f) in
+    let scope = arg_values (label_at f.index 0 0) f.args in
+    let walk : List Shape = items_breaks f.index 1 scope begin body.items in
+    let rules = return_rules (outer_values f body.items) f.results (length body.items) body.ret in
+    let sized : nat_le (length body.items) item_limit ≡ true = (keeps _ rules (right_none walk _ e)).sized in
+    (leb-true (length body.items) item_limit sized, items_fit f.index 1 scope begin body.items (left_none walk _ e))
+
+pub record Limits (f : Func) : Type 0 where
+  pub args : length f.args ≤ list_limit
+  pub items : length (items_of f.body) ≤ item_limit
+  pub labels : HaveLabels (items_of f.body)
+
+pub limits : (f : Func) → IsWellFormed f → Limits f
+limits f e =
+    let front : List Shape = breaks_at (func_begin f).last (head_rules f) in
+    let heads : List Shape = args_breaks (is_declaration f.body) 0 [] [] (func_begin f) f.args in
+    let body = body_limits f f.body (right_none (front ++ heads) _ e) in
+    record {
+      args = omega (arith, args_fit (is_declaration f.body) 0 [] [] (func_begin f) f.args (omega arith) (right_none front heads (left_none (front ++ heads) _ e)));
+      items = body.0;
+      labels = body.1;
+    }
+
+pub labels_at : (items : List Item) (i : ℕ) (item : Item) → HaveLabels items → i < length items → item ≡ get_or items i item → ops_labels item.ops ≤ label_limit
+labels_at [] i item h lt e = absurd (omega arith)
+labels_at (x ∷ items) zero item h lt e = rw e h.0
+labels_at (x ∷ items) (suc i) item h lt e = labels_at items i item h.1 (omega arith) e

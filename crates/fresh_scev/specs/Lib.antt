@@ -1,0 +1,5 @@
+pub mod Linear
+pub mod Fresh
+pub mod Straight
+pub mod Values
+pub mod Run

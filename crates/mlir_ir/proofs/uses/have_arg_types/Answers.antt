@@ -1,0 +1,9 @@
+use Rattle.std.proofs.Common.{arith, ◌≡◌, [], drop, ◌∙◌, sym}
+use Rattle.std.proofs.lemmas.List.{drop_all}
+use Rattle.mlir_ir.specs.Rules.{have_types, arg_types}
+use Rattle.mlir_ir.specs.Scope.{scope_values}
+use Rattle.mlir_ir.proofs.Pairs.{no_labels}
+use Rattle.mlir_ir.proofs.uses.have_arg_types.Goals as goal
+
+pub returns : goal.returns
+returns c = sym (no_labels (scope_values c.args.scope.now) (arg_types (drop c.loop-k.k c.args.args.now))) ∙ (rw (drop_all c.loop-k.k c.args.labels.now c.loop-k-test.false) at c.loop-k.invariant)
