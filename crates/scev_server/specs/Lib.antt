@@ -1,10 +1,13 @@
 pub mod Bytes
 pub mod Faults
 pub mod Input
+pub mod Guess
+pub mod Scope
+pub mod Reading
+pub mod Printed
 pub mod Expressions
 pub mod Output
 pub mod Plain
 pub mod Memory
 pub mod Reply
 pub mod Serving
-pub mod Reading
