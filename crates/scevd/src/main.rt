@@ -22,7 +22,14 @@ fn run<R: Env + AllocGlobal + Threads>(rt: &R, input: Stdin, output: Stdout) -> 
     };
     let mut src = StdSource::new(input);
     let mut out = StdSink::new(output);
-    serve(rt, rt.alloc(), words.as_slice(), &mut src, &mut out, &OpenGate)
+    serve(
+        rt,
+        rt.alloc(),
+        words.as_slice(),
+        &mut src,
+        &mut out,
+        &OpenGate,
+    )
 }
 
 fn main(rt: HostRuntime) -> ExitCode {
