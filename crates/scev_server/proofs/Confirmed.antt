@@ -1,5 +1,5 @@
 -- A guess that is fit and prints as the bytes is their input, and the only one.
-use Rattle.std.proofs.Common.{◌≡◌, ℕ, zero, suc, ◌+◌, ◌<◌, ◌≤◌, List, [], ◌∷◌, ◌++◌, Bool, true, false, arith, refl, sym, ap, ◌∙◌, subst, inl, inr, ◌⊎◌, All, cond, length, ◌&&◌, nat_lt, ltb-true, drop, get_or}
+use Rattle.std.proofs.Common.{◌≡◌, ℕ, zero, suc, ◌+◌, ◌-◌, ◌*◌, ◌<◌, ◌≤◌, List, [], ◌∷◌, ◌++◌, Bool, true, false, arith, refl, sym, ap, ◌∙◌, subst, inl, inr, ◌⊎◌, All, cond, length, ◌&&◌, nat_lt, ltb-true, drop, get_or}
 use Rattle.std.proofs.lemmas.Bool.{and_parts, cases_Bool}
 use Rattle.std.proofs.lemmas.List.Elements.{All-nil, All-cons}
 use Rattle.mlir_ir.specs.declared.types.IrType.{IrType}
@@ -29,8 +29,8 @@ width_is_type n false e = tt
 type_is_type : (w : List ℕ) → IsType (type_of w)
 type_is_type [] = tt
 type_is_type (i ∷ []) = tt
-type_is_type (i ∷ d ∷ []) = width_is_type _ _ refl
-type_is_type (i ∷ d ∷ e ∷ []) = width_is_type _ _ refl
+type_is_type (i ∷ d ∷ []) = width_is_type (d - 48) _ refl
+type_is_type (i ∷ d ∷ e ∷ []) = width_is_type ((d - 48) * 10 + (e - 48)) _ refl
 type_is_type (i ∷ d ∷ e ∷ f ∷ more) = tt
 
 result_is_type : (shape : Shape) (ws : List (List ℕ)) → IsType (result_of shape ws)

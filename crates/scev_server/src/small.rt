@@ -12,6 +12,9 @@ mod print;
 mod scope;
 mod words;
 
+#[cfg(test)]
+mod tests;
+
 use crate::input::Input;
 use confirm::{is_fit, is_text};
 use guess::input_at;

@@ -1,4 +1,4 @@
-ghost use Rattle.std.specs.Prelude.{◌≡◌, ◌↔◌, ◌≤◌, ◌++◌, ◌∷◌, [], false, All, IfOk, IsTrue, length};
+ghost use Rattle.std.specs.Prelude.{◌≡◌, ◌↔◌, ◌≤◌, ◌++◌, ◌∷◌, [], false, All, IfOk, IsSomeAnd, IsTrue, length};
 ghost use Rattle.scev_server.specs.Input.{IsCommand, IsScript, IsSessionName, IsSmall, IsSmallItem, IsSmallKind, MayLackEnd, is_session_byte};
 ghost use Rattle.scev_server.specs.Printed.{printed};
 ghost use Rattle.scev_server.specs.Reading.{IsFit};
@@ -41,16 +41,27 @@ fn is_small_item(item: &Item) -> bool
 fn are_small(items: &[Item]) -> bool
     ensures { IsTrue result ↔ All IsSmallItem items.now }
 {
-    items.iter().all(|item| is_small_item(item))
+    for item in items {
+        if !is_small_item(item) {
+            return false;
+        }
+    }
+    true
+}
+
+fn has_small_body(func: &Func) -> bool
+    ensures { IsTrue result ↔ IsSomeAnd func.now.body (λ body. All IsSmallItem body.items) }
+{
+    match &func.body {
+        None => false,
+        Some(body) => are_small(body.items.as_slice()),
+    }
 }
 
 fn is_small(func: &Func) -> bool
     ensures { IsTrue result ↔ IsSmall func.now }
 {
-    match &func.body {
-        None => false,
-        Some(body) => func.index == 0 && !func.private && are_small(body.items.as_slice()),
-    }
+    func.index == 0 && !func.private && has_small_body(func)
 }
 
 fn is_session(byte: u8) -> bool
