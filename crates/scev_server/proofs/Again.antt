@@ -84,23 +84,23 @@ args_read vs k (suc n) scope (arg ∷ args) a h le =
       after = more.after;
       agrees = subst (Agrees more.after) (append_assoc vs (w ∷ []) (arg_values (k + 1) args)) more.agrees;
       again = λ rest over.
-        defs_turn
-        arg_of
-        arg_size
-        (λ i. i)
-        n
-        k
-        scope
-        (flat_map arg_words (arg ∷ args) ++ rest)
-        (flat_map arg_words args ++ rest)
-        arg
-        arg.name
-        (record { values = args; rest = rest; scope = more.after })
-        refl
-        (arg_is arg h.0.name h.0.typed scope (flat_map arg_words args ++ rest))
-        refl
-        refl
-        (more.again rest over);
+          defs_turn
+          arg_of
+          arg_size
+          (λ i. i)
+          n
+          k
+          scope
+          (flat_map arg_words (arg ∷ args) ++ rest)
+          (flat_map arg_words args ++ rest)
+          arg
+          arg.name
+          (record { values = args; rest = rest; scope = more.after })
+          refl
+          (arg_is arg h.0.name h.0.typed scope (flat_map arg_words args ++ rest))
+          refl
+          refl
+          (more.again rest over);
     }
 
 arg_parts : (n t : List ℕ) (g : ℕ) → (codes "%" ++ n ++ codes ": " ++ t) ++ g ∷ [] ≡ (37 ∷ n ++ 58 ∷ []) ++ (32 ∷ t ++ g ∷ [])

@@ -127,9 +127,10 @@ read_args n vs at [] h t = tt
 read_args n vs at (arg ∷ args) h t =
     let both = none_both (breaks_at at.last (arg_rules false n [] vs arg)) (args_breaks false (n + 1) [] (vs ++ arg_values at.next (arg ∷ [])) (past 1 0 at) args) h in
     let k = keeps at.last (arg_rules false n [] vs arg) both.0 in
-    let free = and_parts (is_name arg.name) (not (has_name vs arg.name)) (or_first (is_free vs arg.name) (length arg.name == 0) true k.typed) in
-    (record { name = free.0; fresh = fresh vs arg.name (not_false (has_name vs arg.name) free.1); typed = All-head (λ a. IsType a.ty) arg args t },
-    read_args (n + 1) (vs ++ arg_values at.next (arg ∷ [])) (past 1 0 at) args both.1 (All-tail (λ a. IsType a.ty) arg args t))
+    let free = and_parts (is_name arg.name) (not (has_name vs arg.name)) (or_first (is_free vs arg.name) (length arg.name == 0) true k.typed) in (
+      record { name = free.0; fresh = fresh vs arg.name (not_false (has_name vs arg.name) free.1); typed = All-head (λ a. IsType a.ty) arg args t },
+      read_args (n + 1) (vs ++ arg_values at.next (arg ∷ [])) (past 1 0 at) args both.1 (All-tail (λ a. IsType a.ty) arg args t),
+    )
 
 few_args : (n : ℕ) (vs : List Value) (at : Position) (args : List Arg) → n ≤ 16 → args_breaks false n [] vs at args ≡ [] → length args + n ≤ 16
 few_args n vs at [] le h = omega arith
@@ -235,17 +236,18 @@ read_items : (vs : List Value) (k : ℕ) (at : Position) (items : List Item) →
 read_items vs k at [] s t h = tt
 read_items vs k at (item ∷ items) s t h =
     let both =
-      none_both
-      (ops_breaks vs (in_item k item) (at_item 0 k at) item.ops)
-      (items_breaks 0 (k + 1) (vs ++ results_of (label_at 0 k 0) item.ops) (past_ops item.ops (at_item 0 k at)) items)
-      h in
+    none_both
+    (ops_breaks vs (in_item k item) (at_item 0 k at) item.ops)
+    (items_breaks 0 (k + 1) (vs ++ results_of (label_at 0 k 0) item.ops) (past_ops item.ops (at_item 0 k at)) items)
+    h in
     let small = All-head IsSmallItem item items s in
-    let values = outer_all (label_at 0 k 0) item small in
-    (read_item vs (in_item k item) (at_item 0 k at) item small (All-head IsTypedItem item items t) both.0,
-    subst
-    (λ ws. AreReadItems (vs ++ ws) (k + 1) items)
-    values
-    (read_items (vs ++ results_of (label_at 0 k 0) item.ops) (k + 1) (past_ops item.ops (at_item 0 k at)) items (All-tail IsSmallItem item items s) (All-tail IsTypedItem item items t) both.1))
+    let values = outer_all (label_at 0 k 0) item small in (
+      read_item vs (in_item k item) (at_item 0 k at) item small (All-head IsTypedItem item items t) both.0,
+      subst
+          (λ ws. AreReadItems (vs ++ ws) (k + 1) items)
+          values
+          (read_items (vs ++ results_of (label_at 0 k 0) item.ops) (k + 1) (past_ops item.ops (at_item 0 k at)) items (All-tail IsSmallItem item items s) (All-tail IsTypedItem item items t) both.1),
+    )
 
 -- the function
 
@@ -292,13 +294,13 @@ read_func f s t h =
     let head_args = none_both (breaks_at 0 (head_rules f) ++ args_breaks false 0 [] [] begin f.args) _ all in
     let in_head = none_both (breaks_at 0 (head_rules f)) (args_breaks false 0 [] [] begin f.args) head_args.0 in
     let in_body =
-      none_both
-      (items_breaks 0 1 (arg_values 0 f.args) (past_args f.args begin) body.items)
-      (breaks_at (past_items 0 1 body.items (past_args f.args begin)).last (return_rules (arg_values 0 f.args ++ items_results 0 1 body.items) f.results (length body.items) body.ret))
-      head_args.1 in
+    none_both
+    (items_breaks 0 1 (arg_values 0 f.args) (past_args f.args begin) body.items)
+    (breaks_at (past_items 0 1 body.items (past_args f.args begin)).last (return_rules (arg_values 0 f.args ++ items_results 0 1 body.items) f.results (length body.items) body.ret))
+    head_args.1 in
     let head = keeps 0 (head_rules f) in_head.0 in
     let ret =
-      keeps (past_items 0 1 body.items (past_args f.args begin)).last (return_rules (arg_values 0 f.args ++ items_results 0 1 body.items) f.results (length body.items) body.ret) in_body.1 in
+    keeps (past_items 0 1 body.items (past_args f.args begin)).last (return_rules (arg_values 0 f.args ++ items_results 0 1 body.items) f.results (length body.items) body.ret) in_body.1 in
     let values : arg_values 0 f.args ++ items_results 0 1 body.items ≡ arg_values 0 f.args ++ items_values 0 1 body.items = ap (λ vs. arg_values 0 f.args ++ vs) (items_all 1 body.items b.2) in
     let scoped : are_in_scope (arg_values 0 f.args ++ items_values 0 1 body.items) body.ret ≡ true = subst (λ vs. are_in_scope vs body.ret ≡ true) values ret.in_scope in
     let typed : have_types (arg_values 0 f.args ++ items_values 0 1 body.items) f.results body.ret ≡ true = subst (λ vs. have_types vs f.results body.ret ≡ true) values ret.typed in

@@ -126,14 +126,14 @@ head_reads name args arrow ws vs h a r =
     let front = reads_both (codes "func.func ") (64 ∷ name ++ 40 ∷ []) (codes "func.func" ∷ []) ((64 ∷ name) ∷ []) first second in
     let with_args = reads_both (codes "func.func " ++ (64 ∷ name ++ 40 ∷ [])) (args ++ 41 ∷ []) (codes "func.func" ∷ (64 ∷ name) ∷ []) ws front (a 41 refl) in
     let with_arrow =
-      reads_both (codes "func.func " ++ (64 ∷ name ++ 40 ∷ []) ++ (args ++ 41 ∷ [])) (arrow ++ 32 ∷ []) (codes "func.func" ∷ (64 ∷ name) ∷ ws) vs with_args (r 32 refl) in
+    reads_both (codes "func.func " ++ (64 ∷ name ++ 40 ∷ []) ++ (args ++ 41 ∷ [])) (arrow ++ 32 ∷ []) (codes "func.func" ∷ (64 ∷ name) ∷ ws) vs with_args (r 32 refl) in
     let all =
-      reads_both (codes "func.func " ++ (64 ∷ name ++ 40 ∷ []) ++ (args ++ 41 ∷ []) ++ (arrow ++ 32 ∷ [])) (123 ∷ 10 ∷ []) (codes "func.func" ∷ (64 ∷ name) ∷ (ws ++ vs)) (codes "{" ∷ []) with_arrow last in
+    reads_both (codes "func.func " ++ (64 ∷ name ++ 40 ∷ []) ++ (args ++ 41 ∷ []) ++ (arrow ++ 32 ∷ [])) (123 ∷ 10 ∷ []) (codes "func.func" ∷ (64 ∷ name) ∷ (ws ++ vs)) (codes "{" ∷ []) with_arrow last in
     let regrouped : Reads (codes "func.func " ++ (64 ∷ name ++ 40 ∷ []) ++ (args ++ 41 ∷ []) ++ (arrow ++ 32 ∷ []) ++ (123 ∷ 10 ∷ [])) (head_words name ws vs) =
-      subst
-      (λ w. Reads (codes "func.func " ++ (64 ∷ name ++ 40 ∷ []) ++ (args ++ 41 ∷ []) ++ (arrow ++ 32 ∷ []) ++ (123 ∷ 10 ∷ [])) (codes "func.func" ∷ (64 ∷ name) ∷ w))
-      (append_assoc ws vs (codes "{" ∷ []))
-      all in
+    subst
+    (λ w. Reads (codes "func.func " ++ (64 ∷ name ++ 40 ∷ []) ++ (args ++ 41 ∷ []) ++ (arrow ++ 32 ∷ []) ++ (123 ∷ 10 ∷ [])) (codes "func.func" ∷ (64 ∷ name) ∷ w))
+    (append_assoc ws vs (codes "{" ∷ []))
+    all in
     subst (λ t. Reads t (head_words name ws vs)) (sym (head_parts name args arrow)) regrouped
 
 -- the return
@@ -183,7 +183,7 @@ return_reads naming scope vs (l ∷ ls) whole a h =
     let front : Reads (codes "return " ++ (uses ++ 32 ∷ [])) (codes "return" ∷ use_words) = reads_both (codes "return ") (uses ++ 32 ∷ []) (codes "return" ∷ []) use_words first used in
     let all = reads_both (codes "return " ++ (uses ++ 32 ∷ [])) ((58 ∷ 32 ∷ []) ++ (types ++ 10 ∷ [])) (codes "return" ∷ use_words) type_words front last in
     let text : codes "return " ++ (uses ++ 32 ∷ []) ++ ((58 ∷ 32 ∷ []) ++ (types ++ 10 ∷ [])) ≡ (codes "return" ++ (codes " " ++ uses ++ codes " : " ++ types)) ++ 10 ∷ [] =
-      sym (return_parts uses types ∙ append_assoc (codes "return " ++ (uses ++ 32 ∷ [])) (58 ∷ 32 ∷ []) (types ++ 10 ∷ [])) in
+    sym (return_parts uses types ∙ append_assoc (codes "return " ++ (uses ++ 32 ∷ [])) (58 ∷ 32 ∷ []) (types ++ 10 ∷ [])) in
     reads_both (32 ∷ 32 ∷ []) ((codes "return" ++ (codes " " ++ uses ++ codes " : " ++ types)) ++ 10 ∷ []) [] (return_words naming labels) blanks (subst (λ t. Reads t (return_words naming labels)) text all)
 
 -- the whole function
@@ -284,16 +284,16 @@ lines_are names f r =
     let naming = naming_of names f in
     ap (body_text naming f) r.is_body
     ∙ ap
-      (λ p. line 0 (codes "func.func " ++ cond p (codes "private ") [] ++ codes "@" ++ f.name ++ bracketed (joined (map arg_text f.args)) ++ arrow_text f.results ++ codes " {")
-      ++ items_text naming r.body.items
-      ++ line 1 (codes "return" ++ ends_text naming r.body.ret)
-      ++ line 0 (codes "}"))
-      r.public
+    (λ p. line 0 (codes "func.func " ++ cond p (codes "private ") [] ++ codes "@" ++ f.name ++ bracketed (joined (map arg_text f.args)) ++ arrow_text f.results ++ codes " {")
+    ++ items_text naming r.body.items
+    ++ line 1 (codes "return" ++ ends_text naming r.body.ret)
+    ++ line 0 (codes "}"))
+    r.public
     ∙ lines_grouped
-      (codes "func.func " ++ [] ++ codes "@" ++ f.name ++ (codes "(" ++ joined (map arg_text f.args) ++ codes ")") ++ arrow_text f.results ++ codes " {" ++ 10 ∷ [])
-      (items_text naming r.body.items)
-      (line 1 (codes "return" ++ ends_text naming r.body.ret))
-      (codes "}" ++ 10 ∷ [])
+    (codes "func.func " ++ [] ++ codes "@" ++ f.name ++ (codes "(" ++ joined (map arg_text f.args) ++ codes ")") ++ arrow_text f.results ++ codes " {" ++ 10 ∷ [])
+    (items_text naming r.body.items)
+    (line 1 (codes "return" ++ ends_text naming r.body.ret))
+    (codes "}" ++ 10 ∷ [])
   where
     lines_grouped : (a b c d : List ℕ) → a ++ b ++ c ++ d ≡ a ++ (b ++ (c ++ d))
     lines_grouped a b c d = append_assoc (a ++ b) c d ∙ append_assoc a b (c ++ d)
@@ -311,25 +311,25 @@ func_read f r names =
     let last = reads_both (line 1 (codes "return" ++ ends_text naming r.body.ret)) (codes "}" ++ 10 ∷ []) ret (codes "}" ∷ []) (return_reads naming items.after vs r.body.ret whole items.agrees r.uses) close in
     let body = reads_both (items_text naming r.body.items) (line 1 (codes "return" ++ ends_text naming r.body.ret) ++ (codes "}" ++ 10 ∷ [])) items.words (ret ++ codes "}" ∷ []) items.reads last in
     let all =
-      reads_both
-      (codes "func.func " ++ [] ++ codes "@" ++ f.name ++ (codes "(" ++ joined (map arg_text f.args) ++ codes ")") ++ arrow_text f.results ++ codes " {" ++ 10 ∷ [])
-      (items_text naming r.body.items ++ (line 1 (codes "return" ++ ends_text naming r.body.ret) ++ (codes "}" ++ 10 ∷ [])))
-      (head_words f.name (flat_map arg_words f.args) (arrow_words f.results))
-      (items.words ++ (ret ++ codes "}" ∷ []))
-      head
-      body in
+    reads_both
+    (codes "func.func " ++ [] ++ codes "@" ++ f.name ++ (codes "(" ++ joined (map arg_text f.args) ++ codes ")") ++ arrow_text f.results ++ codes " {" ++ 10 ∷ [])
+    (items_text naming r.body.items ++ (line 1 (codes "return" ++ ends_text naming r.body.ret) ++ (codes "}" ++ 10 ∷ [])))
+    (head_words f.name (flat_map arg_words f.args) (arrow_words f.results))
+    (items.words ++ (ret ++ codes "}" ∷ []))
+    head
+    body in
     record {
       words = func_words naming f items.words r.body.ret;
       reads = subst (λ t. Reads t (func_words naming f items.words r.body.ret)) (sym (lines_are names f r)) all;
       again = λ rest.
-        let behind = codes "return" ∷ (one_each (use_text naming) r.body.ret ++ (one_each (used_type naming) r.body.ret ++ codes "}" ∷ rest)) in
-        let in_body = items.words ++ behind in
-        let types = one_each type_text f.results ++ codes "{" ∷ in_body in
-        let arrow = arrow_words f.results ++ codes "{" ∷ in_body in
-        let ws = codes "func.func" ∷ (64 ∷ f.name) ∷ (flat_map arg_words f.args ++ arrow) in
-        let split : func_words naming f items.words r.body.ret ++ rest ≡ ws =
+          let behind = codes "return" ∷ (one_each (use_text naming) r.body.ret ++ (one_each (used_type naming) r.body.ret ++ codes "}" ∷ rest)) in
+          let in_body = items.words ++ behind in
+          let types = one_each type_text f.results ++ codes "{" ∷ in_body in
+          let arrow = arrow_words f.results ++ codes "{" ∷ in_body in
+          let ws = codes "func.func" ∷ (64 ∷ f.name) ∷ (flat_map arg_words f.args ++ arrow) in
+          let split : func_words naming f items.words r.body.ret ++ rest ≡ ws =
           words_split (codes "func.func") (64 ∷ f.name) (flat_map arg_words f.args) (arrow_words f.results) items.words (one_each (use_text naming) r.body.ret) (one_each (used_type naming) r.body.ret) rest in
-        let part =
+          let part =
           func_is
           ws
           (flat_map arg_words f.args ++ arrow)
@@ -352,6 +352,6 @@ func_read f r names =
           (is_row f.results (codes "{" ∷ in_body) (types_of types) (row_again type_of 105 type_text f.results 16 (codes "{" ∷ in_body) (types_are_again f.results r.results) r.few_results refl))
           refl
           (body_again naming args.after items.after vs r.body items.words rest whole items.agrees r.uses r.few_uses items.again) in
-        let part' : IsPart f rest (func_of ws) = (sym (func_is_read f r) ∙ part.0, part.1) in
-        subst (λ w. IsPart f rest (func_of w)) (sym split) part';
+          let part' : IsPart f rest (func_of ws) = (sym (func_is_read f r) ∙ part.0, part.1) in
+          subst (λ w. IsPart f rest (func_of w)) (sym split) part';
     }

@@ -101,16 +101,16 @@ item_read naming scope vs more item whole a r =
       begun = λ rest. refl;
       named = λ rest. refl;
       again = λ rest.
-        item_is
-        vs
-        item
-        r
-        (name_of (37 ∷ r.pack.name))
-        (result_of (shape_of (ws ++ rest)) (ws ++ rest))
-        (kind_of (shape_of (ws ++ rest)) scope (ws ++ rest))
-        (text_again r.pack.name (name_bytes r.pack.name r.name))
-        (k.result (37 ∷ r.pack.name) (codes "=") rest)
-        (k.again (37 ∷ r.pack.name) (codes "=") rest);
+          item_is
+          vs
+          item
+          r
+          (name_of (37 ∷ r.pack.name))
+          (result_of (shape_of (ws ++ rest)) (ws ++ rest))
+          (kind_of (shape_of (ws ++ rest)) scope (ws ++ rest))
+          (text_again r.pack.name (name_bytes r.pack.name r.name))
+          (k.result (37 ∷ r.pack.name) (codes "=") rest)
+          (k.again (37 ∷ r.pack.name) (codes "=") rest);
       over = λ rest. k.over (37 ∷ r.pack.name) (codes "=") rest;
     }
 
@@ -149,8 +149,8 @@ items_read naming vs k (suc n) scope (item ∷ items) whole a h le =
       after = more.after;
       agrees = subst (Agrees more.after) (append_assoc vs (ops_values (label_at 0 k 0) item.ops) (items_values 0 (k + 1) items)) more.agrees;
       again = λ rest over.
-        ap (items_of (suc n) k scope) (append_assoc one.words more.words rest)
-        ∙ defs_turn
+          ap (items_of (suc n) k scope) (append_assoc one.words more.words rest)
+          ∙ defs_turn
           item_of
           item_size
           item_label

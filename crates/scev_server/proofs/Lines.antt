@@ -160,11 +160,11 @@ binary_read naming scope vs more ty op flags a b whole agrees h k =
       reads = λ n name. rw (no_flags flags k.1 k.2) (binary_reads n (bin_text op) (use_text naming a) (use_text naming b) (type_text ty) name o.is_word ua.is_word ub.is_word t.is_word);
       result = λ n e rest. rw shape t.again;
       again = λ n e rest.
-        rw shape
-        (ap (λ p. Bin p (record { nsw = false; nuw = false }) (use_of scope (use_text naming a)) (use_of scope (use_text naming b))) o.again
-        ∙ ap (λ f. Bin op f (use_of scope (use_text naming a)) (use_of scope (use_text naming b))) (flags_are flags k.1 k.2)
-        ∙ ap (λ l. Bin op flags l (use_of scope (use_text naming b))) ua.again
-        ∙ ap (λ l. Bin op flags a l) ub.again);
+          rw shape
+          (ap (λ p. Bin p (record { nsw = false; nuw = false }) (use_of scope (use_text naming a)) (use_of scope (use_text naming b))) o.again
+          ∙ ap (λ f. Bin op f (use_of scope (use_text naming a)) (use_of scope (use_text naming b))) (flags_are flags k.1 k.2)
+          ∙ ap (λ l. Bin op flags l (use_of scope (use_text naming b))) ua.again
+          ∙ ap (λ l. Bin op flags a l) ub.again);
       over = λ n e rest. rw shape refl;
     }
 

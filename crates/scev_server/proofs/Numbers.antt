@@ -121,10 +121,10 @@ number_high w v m lo hi le e =
     record {
       is_word = record { free = (decimal_word (suc m) small).free; full = refl };
       again =
-        ap (λ k. (2 ^ w - k % 2 ^ w) % 2 ^ w) (digits_again (suc m) small)
-        ∙ ap (λ k. (2 ^ w - k) % 2 ^ w) (mod-eq_of_lt below)
-        ∙ ap (λ k. k % 2 ^ w) back
-        ∙ mod-eq_of_lt hi;
+          ap (λ k. (2 ^ w - k % 2 ^ w) % 2 ^ w) (digits_again (suc m) small)
+          ∙ ap (λ k. (2 ^ w - k) % 2 ^ w) (mod-eq_of_lt below)
+          ∙ ap (λ k. k % 2 ^ w) back
+          ∙ mod-eq_of_lt hi;
       not_true = refl;
       not_false = refl;
     }

@@ -28,9 +28,10 @@ body_is scope scope' ws w v u t items ret n d e r l f =
     let v' : v ≡ drop 1 (items_of 1023 1 scope ws).rest = e ∙ ap (drop 1) d.1 in
     let uses : uses_of scope' v ≡ uses_of (items_of 1023 1 scope ws).scope (drop 1 (items_of 1023 1 scope ws).rest) = ap (λ s. uses_of s v) d.2 ∙ ap (uses_of (items_of 1023 1 scope ws).scope) v' in
     let ret' : ret ≡ (uses_of (items_of 1023 1 scope ws).scope (drop 1 (items_of 1023 1 scope ws).rest)).values = r.0 ∙ ap (λ row. row.values) uses in
-    let u' : u ≡ (uses_of (items_of 1023 1 scope ws).scope (drop 1 (items_of 1023 1 scope ws).rest)).rest = r.1 ∙ ap (λ row. row.rest) uses in
-    (ap (λ i. record { items = i; ret = ret }) d.0 ∙ ap (λ r. record { items = (items_of 1023 1 scope ws).values; ret = r }) ret',
-    f ∙ ap (λ k. drop (k + 1) u) (l ∙ ap length ret') ∙ ap (drop (length (uses_of (items_of 1023 1 scope ws).scope (drop 1 (items_of 1023 1 scope ws).rest)).values + 1)) u')
+    let u' : u ≡ (uses_of (items_of 1023 1 scope ws).scope (drop 1 (items_of 1023 1 scope ws).rest)).rest = r.1 ∙ ap (λ row. row.rest) uses in (
+      ap (λ i. record { items = i; ret = ret }) d.0 ∙ ap (λ r. record { items = (items_of 1023 1 scope ws).values; ret = r }) ret',
+      f ∙ ap (λ k. drop (k + 1) u) (l ∙ ap length ret') ∙ ap (drop (length (uses_of (items_of 1023 1 scope ws).scope (drop 1 (items_of 1023 1 scope ws).rest)).values + 1)) u',
+    )
 
 pub func_is : (ws w0 w1 w2 w3 w4 w5 : List (List ℕ)) (scope0 scope1 : List ℕ → ℕ) (name : List ℕ) (args : List Arg) (results : List IrType) (body : Body) →
     name ≡ name_of (word ws 1) → w0 ≡ drop 2 ws → ((q : List ℕ) → scope0 q ≡ 0) → IsDefs args w1 scope1 (args_of 16 0 scope0 w0) → w2 ≡ behind_arrow w1 → IsRow results w3 (types_of w2) → w4 ≡ drop 1 w3 →
@@ -40,12 +41,13 @@ func_is ws w0 w1 w2 w3 w4 w5 scope0 scope1 name args results body n e0 s a e2 r 
     let defs : args_of 16 0 scope0 w0 ≡ args_of 16 0 (λ q. 0) (drop 2 ws) = ap (λ s. args_of 16 0 s w0) (fun_ext s) ∙ ap (args_of 16 0 (λ q. 0)) e0 in
     let types : types_of w2 ≡ types_of (behind_arrow (args_of 16 0 (λ q. 0) (drop 2 ws)).rest) = ap types_of (e2 ∙ ap behind_arrow (a.1 ∙ ap (λ d. d.rest) defs)) in
     let part : body_of scope1 w4 ≡ body_of (args_of 16 0 (λ q. 0) (drop 2 ws)).scope (drop 1 (types_of (behind_arrow (args_of 16 0 (λ q. 0) (drop 2 ws)).rest)).rest) =
-      ap (λ s. body_of s w4) (a.2 ∙ ap (λ d. d.scope) defs)
-      ∙ ap (body_of (args_of 16 0 (λ q. 0) (drop 2 ws)).scope) (e4 ∙ ap (drop 1) (r.1 ∙ ap (λ row. row.rest) types)) in
-    (ap (λ v. record { index = 0; name = v; private = false; args = args; results = results; body = Some body }) n
-    ∙ ap (λ v. record { index = 0; name = name_of (word ws 1); private = false; args = v; results = results; body = Some body }) (a.0 ∙ ap (λ d. d.values) defs)
-    ∙ ap (λ v. record { index = 0; name = name_of (word ws 1); private = false; args = (args_of 16 0 (λ q. 0) (drop 2 ws)).values; results = v; body = Some body }) (r.0 ∙ ap (λ row. row.values) types)
-    ∙ ap
-      (λ v. record { index = 0; name = name_of (word ws 1); private = false; args = (args_of 16 0 (λ q. 0) (drop 2 ws)).values; results = (types_of (behind_arrow (args_of 16 0 (λ q. 0) (drop 2 ws)).rest)).values; body = Some v })
-      (b.0 ∙ ap (λ p. p.value) part),
-    b.1 ∙ ap (λ p. p.rest) part)
+    ap (λ s. body_of s w4) (a.2 ∙ ap (λ d. d.scope) defs)
+    ∙ ap (body_of (args_of 16 0 (λ q. 0) (drop 2 ws)).scope) (e4 ∙ ap (drop 1) (r.1 ∙ ap (λ row. row.rest) types)) in (
+      ap (λ v. record { index = 0; name = v; private = false; args = args; results = results; body = Some body }) n
+          ∙ ap (λ v. record { index = 0; name = name_of (word ws 1); private = false; args = v; results = results; body = Some body }) (a.0 ∙ ap (λ d. d.values) defs)
+          ∙ ap (λ v. record { index = 0; name = name_of (word ws 1); private = false; args = (args_of 16 0 (λ q. 0) (drop 2 ws)).values; results = v; body = Some body }) (r.0 ∙ ap (λ row. row.values) types)
+          ∙ ap
+          (λ v. record { index = 0; name = name_of (word ws 1); private = false; args = (args_of 16 0 (λ q. 0) (drop 2 ws)).values; results = (types_of (behind_arrow (args_of 16 0 (λ q. 0) (drop 2 ws)).rest)).values; body = Some v })
+          (b.0 ∙ ap (λ p. p.value) part),
+      b.1 ∙ ap (λ p. p.rest) part,
+    )

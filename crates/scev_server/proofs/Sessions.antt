@@ -81,7 +81,7 @@ sessions_read (script ∷ []) le h =
     let front = codes "== session " ++ script.name in
     let ws = codes "==" ∷ codes "session" ∷ script.name ∷ commands.words in
     let text : front ++ 10 ∷ [] ++ commands_text script.commands ≡ sessions_text (script ∷ []) =
-      append_assoc front (10 ∷ []) (commands_text script.commands) ∙ sym (append-nil (front ++ 10 ∷ commands_text script.commands)) in
+    append_assoc front (10 ∷ []) (commands_text script.commands) ∙ sym (append-nil (front ++ 10 ∷ commands_text script.commands)) in
     record {
       words = ws;
       reads = subst (λ t. Reads t ws) text (reads_both (front ++ 10 ∷ []) (commands_text script.commands) (codes "==" ∷ codes "session" ∷ script.name ∷ []) commands.words (session_reads script.name k.name) commands.reads);
@@ -104,7 +104,7 @@ text_is_read input h =
     let module_reads : Reads (func_text names f ++ []) func.words = subst (λ t. Reads t func.words) (sym (append-nil (func_text names f))) func.reads in
     let reads = reads_both (func_text names f ++ []) (sessions_text input.sessions) func.words sessions.words module_reads sessions.reads in
     let words : words_of (input_text input) ≡ func.words ++ sessions.words =
-      ap words_of (sym (append-nil (input_text input))) ∙ reads [] ∙ append-nil (func.words ++ sessions.words) in
+    ap words_of (sym (append-nil (input_text input))) ∙ reads [] ∙ append-nil (func.words ++ sessions.words) in
     let part = func.again sessions.words in
     ap input_of words
     ∙ ap (λ g. record { func = g; sessions = sessions_of (func_of (func.words ++ sessions.words)).rest }) (sym part.0)

@@ -92,11 +92,11 @@ item_shown f body l v e a =
     let other : (suc a.place == 0) ≡ false = grind arith in
     record {
       spelled =
-        ap (λ n. cond (n == 0) (arg_use f.args l) (body_use f.body (n - 1))) high
-        ∙ ap (λ b. cond b (arg_use f.args l) (body_use f.body (suc a.place - 1))) other
-        ∙ ap (λ b. body_use b (suc a.place - 1)) e
-        ∙ ap (item_use body.items) place
-        ∙ a.shown;
+          ap (λ n. cond (n == 0) (arg_use f.args l) (body_use f.body (n - 1))) high
+          ∙ ap (λ b. cond b (arg_use f.args l) (body_use f.body (suc a.place - 1))) other
+          ∙ ap (λ b. body_use b (suc a.place - 1)) e
+          ∙ ap (item_use body.items) place
+          ∙ a.shown;
       count = a.count;
     }
 

@@ -81,13 +81,13 @@ joined_before text words (x ∷ []) h g k rest =
 joined_before text words (x ∷ y ∷ ys) h g k rest =
     ap (λ t. words_of (t ++ rest)) (joined_more (text x) (text y) (map text ys) g)
     ∙ reads_both
-      (text x ++ 44 ∷ [] ++ 32 ∷ [])
-      (joined (map text (y ∷ ys)) ++ g ∷ [])
-      (words x ++ [])
-      (flat_map words (y ∷ ys))
-      (reads_both (text x ++ 44 ∷ []) (32 ∷ []) (words x) [] (h.0 44 refl) (reads_gap 32 refl))
-      (joined_before text words (y ∷ ys) h.1 g k)
-      rest
+    (text x ++ 44 ∷ [] ++ 32 ∷ [])
+    (joined (map text (y ∷ ys)) ++ g ∷ [])
+    (words x ++ [])
+    (flat_map words (y ∷ ys))
+    (reads_both (text x ++ 44 ∷ []) (32 ∷ []) (words x) [] (h.0 44 refl) (reads_gap 32 refl))
+    (joined_before text words (y ∷ ys) h.1 g k)
+    rest
     ∙ ap (λ w. w ++ flat_map words (y ∷ ys) ++ words_of rest) (append-nil (words x))
 
 -- a split has a part

@@ -35,11 +35,12 @@ drop_front (b ∷ bytes) more = drop_front bytes more
 pub end_there : (bytes text front back : List ℕ) (b : Bool) → front ≡ take (length bytes) text → back ≡ drop (length bytes) text → bytes_eq front bytes ≡ true → b ≡ bytes_eq back (10 ∷ []) →
     (b ≡ true → bytes ++ 10 ∷ [] ≡ text) × (bytes ++ 10 ∷ [] ≡ text → b ≡ true)
 end_there bytes text front back b f k h e =
-    let first : front ≡ bytes = (bytes_eq-Decides front bytes).0 h in
-    (λ t.
-    let last : back ≡ 10 ∷ [] = (bytes_eq-Decides back (10 ∷ [])).0 (sym e ∙ t) in
-    ap (λ v. v ++ 10 ∷ []) (sym first ∙ f) ∙ ap (λ v. take (length bytes) text ++ v) (sym last ∙ k) ∙ take-append-drop (length bytes) text,
-    λ t. e ∙ (bytes_eq-Decides back (10 ∷ [])).1 (k ∙ ap (drop (length bytes)) (sym t) ∙ drop_front bytes (10 ∷ [])))
+    let first : front ≡ bytes = (bytes_eq-Decides front bytes).0 h in (
+      λ t.
+          let last : back ≡ 10 ∷ [] = (bytes_eq-Decides back (10 ∷ [])).0 (sym e ∙ t) in
+          ap (λ v. v ++ 10 ∷ []) (sym first ∙ f) ∙ ap (λ v. take (length bytes) text ++ v) (sym last ∙ k) ∙ take-append-drop (length bytes) text,
+      λ t. e ∙ (bytes_eq-Decides back (10 ∷ [])).1 (k ∙ ap (drop (length bytes)) (sym t) ∙ drop_front bytes (10 ∷ [])),
+    )
 
 pub no_end : (bytes text front : List ℕ) (b : Bool) → front ≡ take (length bytes) text → b ≡ bytes_eq front bytes → b ≡ false → (b ≡ true → bytes ++ 10 ∷ [] ≡ text) × (bytes ++ 10 ∷ [] ≡ text → b ≡ true)
 no_end bytes text front b f e h =
@@ -56,6 +57,7 @@ all_more xs i x lt e p before k d here =
 
 pub body_small : (o : Option Body) (body : Body) (items : List Item) (b : Bool) → o ≡ Some body → items ≡ body.items → (b ≡ true → All IsSmallItem items) × (All IsSmallItem items → b ≡ true) →
     (b ≡ true → IsSomeAnd o (λ c. All IsSmallItem c.items)) × (IsSomeAnd o (λ c. All IsSmallItem c.items) → b ≡ true)
-body_small o body items b e f h =
-    (λ t. subst (λ p. IsSomeAnd p (λ c. All IsSmallItem c.items)) (sym e) (subst (All IsSmallItem) f (h.0 t)),
-    λ s. h.1 (subst (All IsSmallItem) (sym f) (subst (λ p. IsSomeAnd p (λ c. All IsSmallItem c.items)) e s)))
+body_small o body items b e f h = (
+  λ t. subst (λ p. IsSomeAnd p (λ c. All IsSmallItem c.items)) (sym e) (subst (All IsSmallItem) f (h.0 t)),
+  λ s. h.1 (subst (All IsSmallItem) (sym f) (subst (λ p. IsSomeAnd p (λ c. All IsSmallItem c.items)) e s)),
+)

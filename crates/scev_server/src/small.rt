@@ -10,10 +10,9 @@ mod guess;
 mod leaf;
 mod print;
 mod scope;
-mod words;
-
 #[cfg(test)]
 mod tests;
+mod words;
 
 use crate::input::Input;
 use confirm::{is_fit, is_text};

@@ -122,9 +122,7 @@ fn are_scripts(scripts: &[Script]) -> bool
 pub fn is_fit(input: &Input) -> bool
     ensures { IsTrue result ↔ IsFit input.now }
 {
-    is_small(&input.func)
-        && input.func.check().is_ok()
-        && are_scripts(input.sessions.as_slice())
+    is_small(&input.func) && input.func.check().is_ok() && are_scripts(input.sessions.as_slice())
 }
 
 fn lacks_end(bytes: &[u8], text: &[u8]) -> bool

@@ -4,7 +4,9 @@ ghost use Rattle.scev_server.specs.Scope.{label_in};
 ghost use Rattle.scev_server.specs.Guess.{word, args_of, shape_of, shape_size, result_of, kind_of, item_of, items_of, types_of, behind_arrow, use_of, uses_of, commands_of, sessions_of, body_of, func_of, input_of, words_of, IsRow, IsDefs, IsPart};
 
 use crate::input::{Command, Input, Script, ValueName};
-use crate::small::leaf::{begins_with, name_at, number_at, op_at, text_at, truth_type, type_at, unmarked};
+use crate::small::leaf::{
+    begins_with, name_at, number_at, op_at, text_at, truth_type, type_at, unmarked,
+};
 use crate::small::scope::Scope;
 use crate::small::words::Words;
 use arith_word::{Label, List};
@@ -170,7 +172,11 @@ fn uses_at(alloc: Global, scope: &Scope, words: &mut Words) -> Result<Vec<Label>
 }
 
 /// The body in front, up to its brace.
-fn body_at<'a>(alloc: Global, scope: &mut Scope<'a>, words: &mut Words<'a>) -> Result<Body, AllocError>
+fn body_at<'a>(
+    alloc: Global,
+    scope: &mut Scope<'a>,
+    words: &mut Words<'a>,
+) -> Result<Body, AllocError>
     ensures { IfOk result (λ body. IsPart body words.new (body_of (label_in scope.old) words.old)) }
 {
     let items = items_at(alloc, scope, words)?;

@@ -2,7 +2,6 @@ ghost use Rattle.std.specs.Prelude.{◌≡◌, ℕ, ◌≤◌, ◌==◌, ◌-◌
 ghost use Rattle.std.specs.List.{list_all};
 ghost use Rattle.mlir_ir.specs.Names.{is_digit, is_letter, is_name_byte};
 ghost use Rattle.scev_server.specs.Guess.{begins, text_of, name_of, type_of, as_width, op_of, digits_behind, number_of};
-
 ghost use Rattle.mlir_ir.specs.Words.{bits_of};
 ghost use Rattle.mlir_ir.specs.declared.types.IrType.TheVariants.{Int};
 
@@ -109,7 +108,9 @@ fn digits(word: &[u8]) -> u64
 {
     let mut number = 0u64;
     for d in word {
-        number = number.wrapping_mul(10).wrapping_add(d.saturating_sub(48) as u64);
+        number = number
+            .wrapping_mul(10)
+            .wrapping_add(d.saturating_sub(48) as u64);
     }
     number
 }

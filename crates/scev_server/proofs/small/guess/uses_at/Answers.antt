@@ -6,27 +6,28 @@ use Rattle.scev_server.proofs.small.guess.uses_at.Goals as goal
 use Rattle.scev_server.proofs.small.guess.uses_at.Goals.{then-loop-words-test+else-begins_with, else-loop-words-test}
 
 pub loop-words-preserved : goal.loop-words-preserved
-loop-words-preserved c =
-    (omega (arith, c.in_ok-push.ensures.len, c.loop-words-test.true),
-    row_next
-    (use_of (label_in c.args.scope.now))
-    37
-    16
-    _
-    _
-    c.loop-words.words
-    _
-    _
-    _
-    c.label_at.result
-    _
-    (omega arith)
-    c.in_ok-push.ensures.len
-    c.in_ok-push.ensures.items
-    (c.label_at.ensures ∙ ap (use_of (label_in c.args.scope.now)) c.word-in-loop-words.ensures)
-    c.skip.ensures
-    (ap (begins 37) (sym c.word.ensures) ∙ sym c.begins_with.ensures ∙ c.if-begins_with.true)
-    c.loop-words.invariant.1)
+loop-words-preserved c = (
+  omega (arith, c.in_ok-push.ensures.len, c.loop-words-test.true),
+  row_next
+      (use_of (label_in c.args.scope.now))
+      37
+      16
+      _
+      _
+      c.loop-words.words
+      _
+      _
+      _
+      c.label_at.result
+      _
+      (omega arith)
+      c.in_ok-push.ensures.len
+      c.in_ok-push.ensures.items
+      (c.label_at.ensures ∙ ap (use_of (label_in c.args.scope.now)) c.word-in-loop-words.ensures)
+      c.skip.ensures
+      (ap (begins 37) (sym c.word.ensures) ∙ sym c.begins_with.ensures ∙ c.if-begins_with.true)
+      c.loop-words.invariant.1,
+)
 
 pub returns : goal.returns
 returns c =
