@@ -1,9 +1,9 @@
 -- The facts of a module of one function.
-use Rattle.std.proofs.Common.{◌≡◌, ℕ, List, [], ◌∷◌, Option, Some, None, zero, suc, refl, sym, ◌∙◌, subst, All, arith}
+use Rattle.std.proofs.Common.{◌≡◌, ℕ, [], ◌∷◌, Option, Some, None, zero, suc, refl, sym, subst, All}
 use Rattle.std.proofs.lemmas.List.Elements.{All-nil}
 use Rattle.std.specs.Prelude.{slice_get}
 use Rattle.mlir_ir.specs.declared.types.Func.{Func}
-use Rattle.mlir_ir.specs.Calls.{Called, ArePlaced, AreNamedApart, DoCallsFit, FitsCallee, func_calls}
+use Rattle.mlir_ir.specs.Calls.{ArePlaced, AreNamedApart, DoCallsFit, FitsCallee, func_calls}
 use Rattle.mlir_ir.specs.Values.{func_values}
 
 module _ (func : Func) where

@@ -1,5 +1,5 @@
 -- The breaks of a function's items, item by item.
-use Rattle.std.proofs.Common.{◌≡◌, ℕ, ◌+◌, ◌<◌, List, [], ◌∷◌, ◌++◌, length, take, drop, get_or, refl, ap, ◌∙◌, sym, subst, arith, Option, Some, None, append_assoc, All}
+use Rattle.std.proofs.Common.{◌≡◌, ℕ, ◌+◌, ◌<◌, List, [], ◌∷◌, ◌++◌, length, take, drop, get_or, refl, ap, ◌∙◌, sym, arith, Option, Some, None, append_assoc}
 use Rattle.std.proofs.lemmas.List.{take_more, drop_more, length-take}
 use Rattle.std.specs.Option.{option_or}
 use Rattle.mlir_ir.specs.declared.rules.Position.{Position}

@@ -1,8 +1,7 @@
 -- The names of arguments and results, over the lists that define them.
-use Rattle.std.proofs.Common.{◌≡◌, ℕ, ◌+◌, ◌-◌, ◌<◌, ◌≤◌, ◌&&◌, ◌||◌, Bool, true, false, List, [], ◌∷◌, ◌++◌, length, take, drop, refl, ap, ◌∙◌, sym, arith, nat_lt, zero, suc, length-drop}
+use Rattle.std.proofs.Common.{◌≡◌, ℕ, ◌+◌, ◌&&◌, ◌||◌, Bool, true, false, List, [], ◌∷◌, ◌++◌, length, take, drop, refl, ◌∙◌, arith, nat_lt, zero, suc, length-drop}
 use Rattle.std.proofs.lemmas.List.Folds.{list_any-append}
 use Rattle.std.proofs.lemmas.Bool.Decides.{nat_tests}
-use Rattle.std.specs.List.{list_any}
 use Rattle.std.specs.Str.{bytes_eq}
 use Rattle.mlir_ir.specs.declared.types.Arg.{Arg}
 use Rattle.mlir_ir.specs.declared.types.IrType.{IrType}
@@ -10,9 +9,9 @@ use Rattle.mlir_ir.specs.declared.types.Item.{Item}
 use Rattle.mlir_ir.specs.declared.types.Op.{Op}
 use Rattle.mlir_ir.specs.declared.types.Pack.{Pack}
 use Rattle.mlir_ir.specs.Check.{results_of, op_results, items_results}
-use Rattle.mlir_ir.specs.Labels.{label_at, kind_labels, op_labels, ops_labels}
+use Rattle.mlir_ir.specs.Labels.{label_at, kind_labels, op_labels}
 use Rattle.mlir_ir.specs.Rules.{has_name}
-use Rattle.mlir_ir.specs.Scope.{packs_name, op_names, args_name, ops_name, items_name}
+use Rattle.mlir_ir.specs.Scope.{packs_name, args_name, ops_name, items_name}
 use Rattle.mlir_ir.specs.Values.{Value, arg_values, pack_values, result_values}
 
 module _ (name : List ℕ) where

@@ -1,7 +1,6 @@
 -- The breaks of a list of places, step by step.
-use Rattle.std.proofs.Common.{◌≡◌, ℕ, ◌+◌, ◌-◌, ◌==◌, ◌<◌, ◌≤◌, Bool, true, false, List, [], ◌∷◌, ◌++◌, length, take, drop, get_or, refl, ap, ◌∙◌, sym, arith, Option, Some, None, if◌then◌else◌, append_assoc, zero, suc}
+use Rattle.std.proofs.Common.{◌≡◌, ℕ, ◌+◌, ◌-◌, ◌==◌, ◌<◌, ◌≤◌, Bool, List, [], ◌∷◌, ◌++◌, length, take, drop, get_or, refl, ap, ◌∙◌, sym, arith, Option, Some, None, if◌then◌else◌, append_assoc, zero, suc}
 use Rattle.std.proofs.lemmas.Bool.Decides.{nat_tests}
-use Rattle.std.proofs.lemmas.Grind.{common_steps}
 use Rattle.std.proofs.lemmas.List.{take_more, drop_more}
 use Rattle.std.specs.Option.{option_or}
 use Rattle.mlir_ir.specs.declared.rules.Nest.{Nest}
@@ -12,7 +11,7 @@ use Rattle.mlir_ir.specs.declared.types.Arg.{Arg}
 use Rattle.mlir_ir.specs.declared.types.IrType.{IrType}
 use Rattle.mlir_ir.specs.declared.types.Op.{Op}
 use Rattle.mlir_ir.specs.Check.{first, past, past_op, past_ops, results_of, op_results, op_breaks, ops_breaks, ops_ops, kind_ops, args_breaks, breaks_at}
-use Rattle.mlir_ir.specs.Labels.{kind_labels, op_labels, ops_labels}
+use Rattle.mlir_ir.specs.Labels.{op_labels, ops_labels}
 use Rattle.mlir_ir.specs.Rules.{arg_rules}
 use Rattle.mlir_ir.specs.Values.{Value, arg_values}
 

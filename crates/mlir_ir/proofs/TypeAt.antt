@@ -1,5 +1,5 @@
 -- The type that a label has among arguments and results.
-use Rattle.std.proofs.Common.{◌≡◌, ℕ, ◌+◌, ◌-◌, ◌<◌, ◌≤◌, ◌==◌, Bool, true, false, List, [], ◌∷◌, ◌++◌, length, take, drop, get_or, refl, ap, ◌∙◌, sym, subst, arith, Option, Some, None, nat_eq, nat_lt, if◌then◌else◌, length-drop, length-take, suc, zero, ◌⊎◌, inl, inr}
+use Rattle.std.proofs.Common.{◌≡◌, ℕ, ◌+◌, ◌-◌, ◌<◌, ◌≤◌, ◌==◌, true, false, List, [], ◌∷◌, ◌++◌, length, take, drop, get_or, refl, ap, ◌∙◌, sym, arith, Option, Some, None, length-drop, length-take, suc, zero, ◌⊎◌}
 use Rattle.std.proofs.lemmas.Bool.Decides.{nat_tests}
 use Rattle.std.proofs.lemmas.List.Folds.{find-append}
 use Rattle.std.proofs.lemmas.Option.{slice_get_past, slice_get_read}
@@ -7,14 +7,13 @@ use Rattle.std.proofs.lemmas.Grind.{common_steps}
 use Rattle.std.proofs.lemmas.Bool.{cases_lt}
 use Rattle.std.proofs.Math.Logic.{⊎_elim}
 use Rattle.std.specs.Option.{option_or, option_map}
-use Rattle.std.specs.List.{find}
 use Rattle.std.specs.Prelude.{slice_get}
 use Rattle.mlir_ir.specs.declared.types.Arg.{Arg}
 use Rattle.mlir_ir.specs.declared.types.IrType.{IrType}
 use Rattle.mlir_ir.specs.declared.types.Op.{Op}
 use Rattle.mlir_ir.specs.declared.types.Pack.{Pack}
 use Rattle.mlir_ir.specs.Check.{results_of, op_results}
-use Rattle.mlir_ir.specs.Labels.{kind_labels, op_labels, ops_labels}
+use Rattle.mlir_ir.specs.Labels.{kind_labels, op_labels}
 use Rattle.mlir_ir.specs.Values.{Value, arg_values, pack_values, result_values, type_at}
 
 above : (a b : ℕ) → b < a → (a == b) ≡ false

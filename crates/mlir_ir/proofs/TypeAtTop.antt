@@ -1,15 +1,14 @@
 -- The type that a label has among a function's arguments and the results of its items.
-use Rattle.std.proofs.Common.{add-zero, ◌≡◌, ℕ, ◌+◌, ◌-◌, ◌*◌, ◌/◌, ◌^◌, ◌<◌, ◌≤◌, List, [], ◌∷◌, ◌++◌, length, get_or, refl, ap, ◌∙◌, sym, subst, arith, Option, Some, None, zero, suc, All, ◌⊎◌}
+use Rattle.std.proofs.Common.{add-zero, ◌≡◌, ℕ, ◌+◌, ◌-◌, ◌*◌, ◌/◌, ◌<◌, ◌≤◌, List, [], ◌∷◌, ◌++◌, length, get_or, refl, ◌∙◌, sym, arith, None, zero, suc, All}
 use Rattle.std.proofs.lemmas.List.Elements.{All-head, All-tail}
 use Rattle.std.specs.Option.{option_or}
 use Rattle.mlir_ir.specs.declared.types.Arg.{Arg}
-use Rattle.mlir_ir.specs.declared.types.IrType.{IrType}
 use Rattle.mlir_ir.specs.declared.types.Item.{Item}
 use Rattle.mlir_ir.specs.declared.types.Op.{Op}
 use Rattle.mlir_ir.specs.Check.{results_of, op_results, items_results}
 use Rattle.mlir_ir.specs.Labels.{label_at, kind_labels, op_labels, ops_labels}
 use Rattle.mlir_ir.specs.Outer.{KeepsLabels}
-use Rattle.mlir_ir.specs.Values.{Value, arg_values, result_values, type_at}
+use Rattle.mlir_ir.specs.Values.{Value, arg_values, type_at}
 use Rattle.mlir_ir.proofs.TypeAt.{type_at_append, args_below, args_none, result_past, ops_below, none_or}
 
 -- behind all labels of the operations

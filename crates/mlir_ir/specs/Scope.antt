@@ -6,7 +6,6 @@ use Rattle.mlir_ir.specs.declared.types.Arg.{Arg}
 use Rattle.mlir_ir.specs.declared.types.Op.{Op}
 use Rattle.mlir_ir.specs.declared.types.Pack.{Pack}
 use Rattle.mlir_ir.specs.declared.types.Item.{Item}
-use Rattle.mlir_ir.specs.declared.outer.Outer.{Outer}
 use Rattle.mlir_ir.specs.declared.scope.Scope.{Scope, Top, Args', Ops'}
 use Rattle.mlir_ir.specs.Labels.{label_at}
 use Rattle.mlir_ir.specs.Values.{Value, arg_values}

@@ -28,6 +28,3 @@ pub use shape::{Shape, ShapeFault};
 pub use types::{
     Arg, Body, Flags, ForParts, Func, IrType, Item, Kind, Op, Pack, Region, WhileParts,
 };
-
-#[cfg(test)]
-mod tests;

@@ -1,7 +1,5 @@
-use Rattle.std.proofs.Common.{rules, arith, ◌≡◌, ◌+◌, ◌<◌, ◌++◌, take, drop, ap, ◌∙◌, sym, Some, None}
-use Rattle.mlir_ir.specs.declared.rules.Position.{Position}
-use Rattle.mlir_ir.specs.Check.{first, breaks_at, past}
-use Rattle.mlir_ir.specs.Rules.{arg_rules}
+use Rattle.std.proofs.Common.{arith, ◌<◌, ◌++◌, take, drop, ap, ◌∙◌}
+use Rattle.mlir_ir.specs.Check.{past}
 use Rattle.mlir_ir.specs.Scope.{scope_values}
 use Rattle.mlir_ir.specs.Values.{arg_values}
 use Rattle.mlir_ir.proofs.Steps.{next_arg, past_past, found_later, arg_kept}

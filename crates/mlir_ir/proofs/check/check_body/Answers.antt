@@ -1,8 +1,7 @@
-use Rattle.std.proofs.Common.{rules, arith, ◌≡◌, ◌+◌, ◌++◌, take, drop, ap, ◌∙◌, sym, subst, Some, None, All}
+use Rattle.std.proofs.Common.{arith, ◌≡◌, ◌∙◌, sym, subst, None, All}
 use Rattle.std.proofs.lemmas.Grind.{common_steps}
 use Rattle.std.proofs.lemmas.List.{take_all, drop_all}
 use Rattle.std.proofs.lemmas.List.Elements.{All-more}
-use Rattle.mlir_ir.specs.declared.types.Item.{Item}
 use Rattle.mlir_ir.specs.Check.{first, items_breaks, past_items}
 use Rattle.mlir_ir.specs.Labels.{label_at}
 use Rattle.mlir_ir.specs.Outer.{KeepsLabels}

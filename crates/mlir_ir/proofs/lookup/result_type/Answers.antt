@@ -1,4 +1,4 @@
-use Rattle.std.proofs.Common.{arith, ◌≡◌, [], drop, ap, ◌∙◌, sym}
+use Rattle.std.proofs.Common.{arith, ◌≡◌, drop, sym}
 use Rattle.std.proofs.lemmas.Grind.{common_steps}
 use Rattle.mlir_ir.proofs.TypeAt.{packs_count, result_some, result_none}
 use Rattle.mlir_ir.proofs.lookup.result_type.Goals as goal

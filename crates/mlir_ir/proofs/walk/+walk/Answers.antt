@@ -1,8 +1,8 @@
-use Rattle.std.proofs.Common.{rules, arith, ◌≡◌, ◌+◌, ◌<◌, ◌++◌, take, drop, ap, ◌∙◌, sym, Some, None}
+use Rattle.std.proofs.Common.{rules, arith, ◌≡◌, ◌+◌, take, ap, ◌∙◌}
 use Rattle.std.proofs.lemmas.Grind.{common_steps}
 use Rattle.mlir_ir.specs.declared.rules.Position.{Position}
 use Rattle.mlir_ir.specs.declared.types.Region.{the_lemmas}
-use Rattle.mlir_ir.specs.Check.{first, ops_breaks, past_op, past_ops, results_of}
+use Rattle.mlir_ir.specs.Check.{past_op}
 use Rattle.mlir_ir.specs.Labels.{ops_labels}
 use Rattle.mlir_ir.specs.Scope.{scope_values}
 use Rattle.mlir_ir.proofs.Rows.{region_labels_items}
