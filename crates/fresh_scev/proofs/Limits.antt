@@ -5,9 +5,6 @@ use Rattle.std.specs.List.{AllByRecursion}
 use Rattle.mlir_ir.specs.declared.shape.Shape.{Shape}
 use Rattle.mlir_ir.specs.declared.shape.ShapeFault.{ShapeFault}
 use Rattle.mlir_ir.specs.declared.shape.ShapeFault.TheVariants.{Use, WrongType, Count, Size}
-use Rattle.mlir_ir.specs.declared.rules.Nest.{Nest}
-use Rattle.mlir_ir.specs.declared.rules.Position.{Position}
-use Rattle.mlir_ir.specs.declared.rules.Rules.{Rules}
 use Rattle.mlir_ir.specs.declared.types.Arg.{Arg}
 use Rattle.mlir_ir.specs.declared.types.Body.{Body}
 use Rattle.mlir_ir.specs.declared.types.Func.{Func}
@@ -34,35 +31,20 @@ kept true at fault e = refl
 kept false at fault e = absurd (cc)
 
 -- a place without a break keeps all rules
-pub record Keeps (rules : Rules) : Type 0 where
-  pub in_scope : rules.in_scope ≡ true
-  pub typed : rules.typed ≡ true
-  pub counted : rules.counted ≡ true
-  pub sized : rules.sized ≡ true
-
-pub keeps : (at : ℕ) (rules : Rules) → breaks_at at rules ≡ [] → Keeps rules
-keeps at rules e =
-    let a : List Shape = unless rules.in_scope at Use in
-    let b : List Shape = unless rules.typed at WrongType in
-    let c : List Shape = unless rules.counted at Count in
-    let d : List Shape = unless rules.sized at Size in
-    let abc = left_none ((a ++ b) ++ c) d e in
-    let ab = left_none (a ++ b) c abc in
-    record {
-      in_scope = kept rules.in_scope at Use (left_none a b ab);
-      typed = kept rules.typed at WrongType (right_none a b ab);
-      counted = kept rules.counted at Count (right_none (a ++ b) c abc);
-      sized = kept rules.sized at Size (right_none ((a ++ b) ++ c) d e);
-    }
+keeps : (at : ℕ) (in_scope typed counted sized : Bool) → ((unless in_scope at Use ++ unless typed at WrongType) ++ unless counted at Count) ++ unless sized at Size ≡ [] → (counted ≡ true) × (sized ≡ true)
+keeps at in_scope typed counted sized e =
+    let two : List Shape = unless in_scope at Use ++ unless typed at WrongType in
+    let three : List Shape = two ++ unless counted at Count in
+    (kept counted at Count (right_none two (unless counted at Count) (left_none three (unless sized at Size) e)), kept sized at Size (right_none three (unless sized at Size) e))
 
 -- an item whose operations have no break is within the limits
-op_fits : (scope : List Value) (nest : Nest) (at : Position) (op : Op) → op_breaks scope nest at op ≡ [] → nest.item_fits ≡ true
+op_fits : (scope : List Value) (nest : _) (at : _) (op : Op) → op_breaks scope nest at op ≡ [] → nest.item_fits ≡ true
 op_fits scope nest at op e =
     let rules = op_rules scope nest at op.packs op.results op.kind in
-    let sized : rules.sized ≡ true = (keeps at.last rules (left_none (breaks_at at.last rules) _ e)).sized in
+    let sized : rules.sized ≡ true = (keeps at.last rules.in_scope rules.typed rules.counted rules.sized (left_none (breaks_at at.last rules) _ e)).1 in
     (and_parts _ nest.item_fits (and_parts _ _ sized).0).1
 
-item_fits : (func k : ℕ) (item : Item) (scope : List Value) (at : Position) → ops_breaks scope (in_item k item) at item.ops ≡ [] → ops_labels item.ops ≤ label_limit
+item_fits : (func k : ℕ) (item : Item) (scope : List Value) (at : _) → ops_breaks scope (in_item k item) at item.ops ≡ [] → ops_labels item.ops ≤ label_limit
 item_fits func k item scope at e = fits item.ops refl e
   where
     fits : (ops : List Op) → item.ops ≡ ops → ops_breaks scope (in_item k item) at ops ≡ [] → ops_labels item.ops ≤ label_limit
@@ -71,18 +53,18 @@ item_fits func k item scope at e = fits item.ops refl e
         let ok : (nat_le k item_limit && nat_le (ops_labels item.ops) label_limit) ≡ true = op_fits scope (in_item k item) at op (left_none (op_breaks scope (in_item k item) at op) _ e) in
         leb-true (ops_labels item.ops) label_limit (and_parts (nat_le k item_limit) (nat_le (ops_labels item.ops) label_limit) ok).1
 
-items_fit : (func k : ℕ) (scope : List Value) (at : Position) (items : List Item) → items_breaks func k scope at items ≡ [] → HaveLabels items
+items_fit : (func k : ℕ) (scope : List Value) (at : _) (items : List Item) → items_breaks func k scope at items ≡ [] → HaveLabels items
 items_fit func k scope at [] e = tt
 items_fit func k scope at (item ∷ items) e = (
   item_fits func k item scope (at_item func k at) (left_none (ops_breaks scope (in_item k item) (at_item func k at) item.ops) _ e),
   items_fit func (k + 1) (scope ++ results_of (label_at func k 0) item.ops) (past_ops item.ops (at_item func k at)) items (right_none (ops_breaks scope (in_item k item) (at_item func k at) item.ops) _ e),
 )
 
-args_fit : (declared : Bool) (n : ℕ) (wanted : List IrType) (scope : List Value) (at : Position) (args : List Arg) → n ≤ list_limit → args_breaks declared n wanted scope at args ≡ [] → n + length args ≤ list_limit
+args_fit : (declared : Bool) (n : ℕ) (wanted : List IrType) (scope : List Value) (at : _) (args : List Arg) → n ≤ list_limit → args_breaks declared n wanted scope at args ≡ [] → n + length args ≤ list_limit
 args_fit declared n wanted scope at [] le e = omega arith
 args_fit declared n wanted scope at (arg ∷ args) le e =
     let rules = arg_rules declared n wanted scope arg in
-    let sized : rules.sized ≡ true = (keeps at.last rules (left_none (breaks_at at.last rules) _ e)).sized in
+    let sized : rules.sized ≡ true = (keeps at.last rules.in_scope rules.typed rules.counted rules.sized (left_none (breaks_at at.last rules) _ e)).1 in
     let lt : n < list_limit = ltb-true n list_limit (and_parts _ (nat_lt n list_limit) sized).1 in
     omega (arith, args_fit declared (n + 1) (drop 1 wanted) (scope ++ arg_values at.next (arg ∷ [])) (past 1 0 at) args (omega arith) (right_none (breaks_at at.last rules) _ e))
 
@@ -93,7 +75,7 @@ body_limits f (Some body) e =
     let scope = arg_values (label_at f.index 0 0) f.args in
     let walk : List Shape = items_breaks f.index 1 scope begin body.items in
     let rules = return_rules (outer_values f body.items) f.results (length body.items) body.ret in
-    let sized : nat_le (length body.items) item_limit ≡ true = (keeps _ rules (right_none walk _ e)).sized in
+    let sized : nat_le (length body.items) item_limit ≡ true = (keeps _ rules.in_scope rules.typed rules.counted rules.sized (right_none walk _ e)).1 in
     (leb-true (length body.items) item_limit sized, items_fit f.index 1 scope begin body.items (left_none walk _ e))
 
 pub record Limits (f : Func) : Type 0 where
@@ -124,15 +106,15 @@ HavePacks ops = AllByRecursion (λ (op : Op). packs_hold op.packs (length op.res
 abbrev pub ItemsHavePacks : List Item → Type 0
 ItemsHavePacks items = AllByRecursion (λ (item : Item). HavePacks item.ops) items
 
-ops_packs : (scope : List Value) (nest : Nest) (at : Position) (ops : List Op) → ops_breaks scope nest at ops ≡ [] → HavePacks ops
+ops_packs : (scope : List Value) (nest : _) (at : _) (ops : List Op) → ops_breaks scope nest at ops ≡ [] → HavePacks ops
 ops_packs scope nest at [] e = tt
 ops_packs scope nest at (op ∷ ops) e =
     let rules = op_rules scope nest at op.packs op.results op.kind in
     let first : List Shape = op_breaks scope nest at op in
-    let counted : rules.counted ≡ true = (keeps at.last rules (left_none (breaks_at at.last rules) _ (left_none first _ e))).counted in
+    let counted : rules.counted ≡ true = (keeps at.last rules.in_scope rules.typed rules.counted rules.sized (left_none (breaks_at at.last rules) _ (left_none first _ e))).0 in
     ((and_parts (packs_hold op.packs (length op.results)) _ counted).0, ops_packs (scope ++ op_results at.next op) nest (past_op op at) ops (right_none first _ e))
 
-items_packs : (func k : ℕ) (scope : List Value) (at : Position) (items : List Item) → items_breaks func k scope at items ≡ [] → ItemsHavePacks items
+items_packs : (func k : ℕ) (scope : List Value) (at : _) (items : List Item) → items_breaks func k scope at items ≡ [] → ItemsHavePacks items
 items_packs func k scope at [] e = tt
 items_packs func k scope at (item ∷ items) e =
     let first : List Shape = ops_breaks scope (in_item k item) (at_item func k at) item.ops in (

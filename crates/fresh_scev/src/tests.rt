@@ -1,9 +1,11 @@
 //! Expressions worked by hand.
 
-ghost use Rattle.std.specs.Prelude.{◌≡◌, IfOk};
+ghost use Rattle.std.specs.Prelude.{◌≡◌, ◌<◌, IfOk};
 
 use super::*;
-use arith_word::{Label, Width};
+use arith_word::{BinOp, Label, List, Text, Width};
+use mlir_ir::{Arg, Body, Flags, Func, IrType, Item, Kind, Op, Pack};
+use sqlite_items::Items;
 use std::alloc::{AllocError, Global};
 use std::process::Abort;
 use std::test::Fail;
@@ -105,5 +107,107 @@ fn multiples(rt: HostRuntime) -> Result<(), Fail> {
     let b = Expr::symbol(alloc, w, Label(2))?;
     assert!(rt; mul(alloc, &a, &b)?.is_none());
     assert_eq!(rt; a.width().bits(), 8);
+    Ok(())
+}
+
+/// The label of the result of an item.
+fn result_of(item: u32) -> Label
+    requires { item < 1024 }
+{
+    Label(item * 16384)
+}
+
+fn arg(alloc: Global, name: &str, ty: IrType) -> Result<Arg, AllocError> {
+    let name = Text::from_string(name.to_string(alloc)?);
+    Ok(Arg { name, ty })
+}
+
+/// An item of one operation with one result.
+fn item(alloc: Global, name: &str, ty: IrType, kind: Kind) -> Result<Item, AllocError> {
+    let name = Text::from_string(name.to_string(alloc)?);
+    let packs = List::from_vec(vec![in alloc; Pack { name, count: 1 }]?);
+    let results = List::from_vec(vec![in alloc; ty]?);
+    let ops = Items::from_vec(vec![in alloc;
+        Op {
+            packs,
+            results,
+            kind
+        },
+    ]?);
+    Ok(Item { ops })
+}
+
+/// `func.func @f(%a: i32, %b: i32)` with a constant, two products, a sum and a difference.
+fn function(alloc: Global, w: Width) -> Result<Func, AllocError> {
+    let ty = IrType::Int(w);
+    let flags = Flags {
+        nsw: false,
+        nuw: false,
+    };
+    let (a, b) = (Label(0), Label(1));
+    let mut items = Vec::new(alloc);
+    items.push(item(alloc, "c3", ty, Kind::Const(3))?)?;
+    items.push(item(
+        alloc,
+        "0",
+        ty,
+        Kind::Bin(BinOp::Muli, flags, a, result_of(1)),
+    )?)?;
+    items.push(item(
+        alloc,
+        "1",
+        ty,
+        Kind::Bin(BinOp::Addi, flags, result_of(2), a),
+    )?)?;
+    items.push(item(alloc, "2", ty, Kind::Bin(BinOp::Subi, flags, b, a))?)?;
+    items.push(item(alloc, "3", ty, Kind::Bin(BinOp::Muli, flags, a, b))?)?;
+    let mut args = Vec::new(alloc);
+    args.push(arg(alloc, "a", ty)?)?;
+    args.push(arg(alloc, "b", ty)?)?;
+    Ok(Func {
+        index: 0,
+        name: Text::from_string("f".to_string(alloc)?),
+        private: false,
+        args: List::from_vec(args),
+        results: List::from_vec(Vec::new(alloc)),
+        body: Some(Body {
+            items: List::from_vec(items),
+            ret: List::from_vec(Vec::new(alloc)),
+        }),
+    })
+}
+
+#[test]
+fn facts_of_a_function(rt: HostRuntime) -> Result<(), Fail> {
+    let alloc = rt.alloc();
+    let f = function(alloc, Width::new(32).ok_or("width")?)?;
+    f.check()?;
+    assert!(rt; is_straight_line(&f));
+    let facts = analyse(alloc, &f)?;
+    assert!(rt; facts.expr(Label(1)).is_some_and(|e| shows(e, 0, &[(1, 1)])));
+    assert!(rt; facts.expr(result_of(1)).is_some_and(|e| shows(e, 3, &[])));
+    assert!(rt;
+        facts
+            .expr(result_of(2))
+            .is_some_and(|e| shows(e, 0, &[(0, 3)]))
+    );
+    assert!(rt;
+        facts
+            .expr(result_of(3))
+            .is_some_and(|e| shows(e, 0, &[(0, 4)]))
+    );
+    assert!(rt;
+        facts
+            .expr(result_of(4))
+            .is_some_and(|e| shows(e, 0, &[(0, 4294967295), (1, 1)]))
+    );
+    // a product of symbols is its own symbol
+    assert!(rt;
+        facts
+            .expr(result_of(5))
+            .is_some_and(|e| shows(e, 0, &[(81920, 1)]))
+    );
+    assert!(rt; facts.expr(Label(2)).is_none());
+    assert!(rt; facts.expr(result_of(6)).is_none());
     Ok(())
 }
