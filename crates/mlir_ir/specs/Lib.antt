@@ -3,3 +3,4 @@ pub mod Labels
 pub mod Values
 pub mod Words
 pub mod Canonical
+pub mod Tokens

@@ -3,9 +3,11 @@
 #![tactic(auto)]
 
 mod module;
+mod token;
 mod types;
 
 pub use module::Module;
+pub use token::{Token, TokenKind};
 pub use types::{
     Arg, Body, Flags, ForParts, Func, IrType, Item, Kind, Op, Pack, Region, WhileParts,
 };
