@@ -4,3 +4,8 @@ pub mod Values
 pub mod Words
 pub mod Canonical
 pub mod Tokens
+pub mod Grammar
+pub mod Texts
+pub mod Trees
+pub mod Terminals
+pub mod Syntaxes

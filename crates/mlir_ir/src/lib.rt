@@ -3,10 +3,14 @@
 #![tactic(auto)]
 
 mod module;
+mod syntax;
+mod terminal;
 mod token;
 mod types;
 
 pub use module::Module;
+pub use syntax::{Branch, Form, Syntax};
+pub use terminal::Terminal;
 pub use token::{Token, TokenKind};
 pub use types::{
     Arg, Body, Flags, ForParts, Func, IrType, Item, Kind, Op, Pack, Region, WhileParts,

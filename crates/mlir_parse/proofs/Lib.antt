@@ -1,0 +1,13 @@
+pub mod Bools
+pub mod First
+pub mod Fits
+pub mod Back
+pub mod Only
+pub mod Viable
+pub mod Places
+pub mod Gives
+pub mod Ranks
+pub mod Wholes
+pub mod Grows
+pub mod Unique
+pub mod Table
