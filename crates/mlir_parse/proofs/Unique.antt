@@ -5,7 +5,6 @@ use Rattle.mlir_ir.specs.Grammar.{Pattern, nothing, one, line, both, either, man
 use Rattle.mlir_parse.specs.Tables.{first, empty}
 use Rattle.mlir_ir.specs.Texts.{Accepts, ends, no_more, token, by_line, in_turn, left, right, again, enough, in_region}
 use Rattle.mlir_ir.specs.Trees.{Forest, none, node, join, Derives, IsTreeOf, derive_nothing, derive_one, derive_line, derive_both, derive_left, derive_right, derive_again, derive_enough, derive_region}
-use Rattle.mlir_parse.specs.Trees.{leaf}
 use Rattle.mlir_parse.proofs.Bools.{and_left}
 use Rattle.mlir_parse.proofs.First.{firsts, empties, first_of, empties_of}
 use Rattle.mlir_parse.proofs.Fits.{Fits, fits_line, fits_deep}

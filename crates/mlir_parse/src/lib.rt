@@ -2,9 +2,9 @@
 #![tactic(auto)]
 
 mod fault;
-mod lines;
 mod read;
 mod rule;
+mod terminals;
 
 pub use fault::Fault;
-pub use read::read;
+pub use terminals::terminal_of;
