@@ -1,7 +1,7 @@
 -- A text has one token list, or a fault, and never both.
-use Rattle.std.proofs.Common.{suc, zero, ◌≡◌, ℕ, ◌+◌, ◌-◌, ◌<◌, ◌≤◌, Bool, true, false, List, [], ◌∷◌, length, take, drop, refl, ap, ◌∙◌, sym, subst, arith, inl, inr}
-use Rattle.std.proofs.lemmas.Bool.{both_ways, cases_order}
-use Rattle.mlir_ir.specs.Tokens.{behind_gap, is_token, IsFront, NoneBegins, Lexes, IsTokenAt, AreTokens, IsLexFault}
+use Rattle.std.proofs.Common.{suc, zero, ◌≡◌, ℕ, ◌+◌, ◌-◌, ◌<◌, ◌≤◌, Bool, true, false, List, [], ◌∷◌, length, take, drop, refl, ap, ◌∙◌, sym, subst, arith, inl, inr, not, ◌==◌, ◌&&◌, length-drop}
+use Rattle.std.proofs.lemmas.Bool.{both_ways, cases_order, cases_Bool}
+use Rattle.mlir_ir.specs.Tokens.{behind_gap, is_token, IsFront, NoneBegins, Lexes, IsTokenAt, AreTokens, IsLexFault, is_blank, is_next}
 use Rattle.mlir_ir.specs.declared.token.Token.{Token}
 use Rattle.mlir_ir.specs.declared.token.TokenKind.{TokenKind}
 use Rattle.mlir_ir.proofs.TokenKinds.{one_kind, token_begins, no_token}
@@ -74,3 +74,33 @@ no_fault at bs (t ∷ ts) (u ∷ us) p q r s h e k more f =
 -- the law: a text with a fault has no token list
 pub not_both : (text : List ℕ) (ts : List Token) (at : ℕ) → AreTokens text ts → IsLexFault text at → ⊥
 not_both text ts at a b = no_fault 0 text ts b.tokens a.place b.place a.rest b.rest a.front a.end b.front b.more b.none
+
+gap_shorter : (comment : Bool) (bs : List ℕ) → length (behind_gap comment bs) ≤ length bs
+gap_shorter true [] = omega arith
+gap_shorter false [] = omega arith
+gap_shorter true (b ∷ bs) = omega (arith, gap_shorter (not (b == 10)) bs)
+gap_shorter false (b ∷ bs) =
+    elim (cases_Bool (is_blank b)) [
+      inl blank ↦ rw blank (omega (arith, gap_shorter false bs))
+    | inr other ↦ elim (cases_Bool (b == 47 && is_next 47 bs)) [
+        inl slashes ↦ rw (other, slashes) (omega (arith, gap_shorter true bs))
+      | inr token ↦ rw (other, token) (omega arith)
+      ]
+    ]
+
+-- a token has a byte
+some_bytes : (bs : List ℕ) (kind : TokenKind) (len : ℕ) → IsFront bs kind len → 0 < len
+some_bytes bs kind zero front = absurd (both_ways (is_token kind []) (no_token kind) front.whole)
+some_bytes bs kind (suc len) front = omega arith
+
+few_tokens : (at : ℕ) (bs : List ℕ) (ts : List Token) (place : ℕ) (rest : List ℕ) → Lexes at bs ts place rest → length ts ≤ length bs
+few_tokens at bs [] place rest h = omega arith
+few_tokens at bs (t ∷ ts) place rest h =
+    let here : length (behind_gap false bs) ≤ length bs = gap_shorter false bs in
+    let some : 0 < length t.text = some_bytes (behind_gap false bs) t.kind (length t.text) h.0.front in
+    let more = few_tokens t.to (drop (length t.text) (behind_gap false bs)) ts place rest h.1 in
+    omega (arith, here, some, more, h.0.front.within, length-drop (length t.text) (behind_gap false bs))
+
+-- the law: a text has no more tokens than bytes
+pub token_count : (text : List ℕ) (ts : List Token) → AreTokens text ts → length ts ≤ length text
+token_count text ts a = few_tokens 0 text ts a.place a.rest a.front

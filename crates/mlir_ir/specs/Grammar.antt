@@ -15,7 +15,7 @@ pub data Pattern : Type 0 where
   -- a region: what stands inside its braces
   region : Pattern → Pattern
 
-infixr 5 ◌~◌
+infixl 5 ◌~◌
 -- one behind the other
 abbrev pub ◌~◌ : Pattern → Pattern → Pattern
 first ~ second = both first second

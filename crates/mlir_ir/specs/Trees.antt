@@ -1,6 +1,7 @@
 -- The trees of a text, and which tokens they derive.
 use Rattle.std.specs.Prelude.{ℕ, ◌≡◌, ◌+◌, ◌<◌, List, [], ◌∷◌, Some, slice_get, length}
 use Rattle.mlir_ir.specs.Grammar.{Pattern, nothing, one, line, both, either, many, region, body}
+use Rattle.mlir_ir.specs.Texts.{region_limit}
 use Rattle.mlir_ir.specs.declared.terminal.Terminal.{Terminal}
 use Rattle.mlir_ir.specs.declared.terminal.Terminal.TheVariants.{LeftBrace, RightBrace}
 use Rattle.mlir_ir.specs.declared.syntax.Form.{Form}
@@ -28,10 +29,6 @@ abbrev mutual
 abbrev pub forest : List Branch → Forest
 forest [] = none
 forest (branch ∷ branches) = put branch (forest branches)
-
--- the most regions that may be open at once
-abbrev pub region_limit : ℕ
-region_limit = 12
 
 -- with so many regions open, the trees derive the tokens from the first place to the second by the right side
 pub data Derives (ts : List Terminal) : ℕ → Pattern → ℕ → Forest → ℕ → Type 0 where

@@ -25,15 +25,17 @@ weaker (one d) p q k g = tt
 weaker (line f) p q k g = λ c h. g c (k c h)
 weaker (both a b) p q k g =
     (weaker a (λ c. first b c || (empty b && p c)) (λ c. first b c || (empty b && q c)) (λ c h. more_true (first b c) (empty b) (p c) (q c) (k c) h) g.0, weaker b p q k g.1)
-weaker (either a b) p q k g =
-    (g.0
-    , λ c h. less_false (first b c || (empty b && p c)) (first b c || (empty b && q c)) (λ m. more_true (first b c) (empty b) (p c) (q c) (k c) m) (g.1 c h)
-    , weaker a p q k g.2
-    , weaker b p q k g.3)
-weaker (many a) p q k g =
-    (g.0
-    , λ c h. less_false (p c) (q c) (k c) (g.1 c h)
-    , weaker a (λ c. first a c || p c) (λ c. first a c || q c) (λ c h. more_true (first a c) true (p c) (q c) (k c) h) g.2)
+weaker (either a b) p q k g = (
+  g.0,
+  λ c h. less_false (first b c || (empty b && p c)) (first b c || (empty b && q c)) (λ m. more_true (first b c) (empty b) (p c) (q c) (k c) m) (g.1 c h),
+  weaker a p q k g.2,
+  weaker b p q k g.3,
+)
+weaker (many a) p q k g = (
+  g.0,
+  λ c h. less_false (p c) (q c) (k c) (g.1 c h),
+  weaker a (λ c. first a c || p c) (λ c. first a c || q c) (λ c h. more_true (first a c) true (p c) (q c) (k c) h) g.2,
+)
 weaker (region a) p q k g = g
 
 pub decided : (r : Pattern) (p : Terminal → Bool) → decides r p ≡ true → Good r p
@@ -49,19 +51,21 @@ decided (either a b) p h =
     let z = decides a p in
     let w = decides b p in
     let xyz = and_left (x && y && z) w h in
-    let xy = and_left (x && y) z xyz in
-    (not_true (empty a) (and_left x y xy)
-    , λ c m. apart (first a c) (first b c || (empty b && p c)) (every_terminal (λ c. not (first a c && (first b c || (empty b && p c)))) (and_right x y xy) c) m
-    , decided a p (and_right (x && y) z xyz)
-    , decided b p (and_right (x && y && z) w h))
+    let xy = and_left (x && y) z xyz in (
+      not_true (empty a) (and_left x y xy),
+      λ c m. apart (first a c) (first b c || (empty b && p c)) (every_terminal (λ c. not (first a c && (first b c || (empty b && p c)))) (and_right x y xy) c) m,
+      decided a p (and_right (x && y) z xyz),
+      decided b p (and_right (x && y && z) w h),
+    )
 decided (many a) p h =
     let x = not (empty a) in
     let y = list_all (λ c. not (first a c && p c)) terminals in
     let z = decides a (λ c. first a c || p c) in
-    let xy = and_left (x && y) z h in
-    (not_true (empty a) (and_left x y xy)
-    , λ c m. apart (first a c) (p c) (every_terminal (λ c. not (first a c && p c)) (and_right x y xy) c) m
-    , decided a (λ c. first a c || p c) (and_right (x && y) z h))
+    let xy = and_left (x && y) z h in (
+      not_true (empty a) (and_left x y xy),
+      λ c m. apart (first a c) (p c) (every_terminal (λ c. not (first a c && p c)) (and_right x y xy) c) m,
+      decided a (λ c. first a c || p c) (and_right (x && y) z h),
+    )
 decided (region a) p h = decided a (same RightBrace) h
 
 -- the check of the whole table

@@ -49,33 +49,36 @@ leaves_line f ts (Stop us) h = tt
 leaves_line f ts (Deep us) h = tt
 
 leaves_both : (a b : Pattern) (ts us : List Terminal) (o : Outcome) → Leaves a ts (Done us) → Leaves b us o → Leaves (both a b) ts o
-leaves_both a b ts us (Done vs) h k =
-    (omega (arith, h.0, k.0)
-    , λ e.
-    elim (cases_of (starts a ts)) [
-      inl p ↦ omega (arith, h.1 p, k.0)
-    | inr p ↦ let q = h.2 p in
-      let m : starts b ts ≡ true = rest_true (starts a ts) (empty a) (starts b ts) p (sym (starts_both a b ts) ∙ e) in
-      let P : List Terminal → Type 0 = λ x. starts b x ≡ true in
-      let l : length us ≡ length ts = ap length q.0 in
-      omega (arith, k.1 (subst P (sym q.0) m), l)
-    ]
-    , λ e.
-    let none_of = sym (starts_both a b ts) ∙ e in
-    let p : starts a ts ≡ false = or_left (starts a ts) (empty a && starts b ts) none_of in
-    let q = h.2 p in
-    let m : starts b ts ≡ false = rest_false (starts a ts) (empty a) (starts b ts) q.1 none_of in
-    let P : List Terminal → Type 0 = λ x. starts b x ≡ false in
-    let z = k.2 (subst P (sym q.0) m) in
-    (z.0 ∙ q.0, both_true (empty a) (empty b) q.1 z.1))
+leaves_both a b ts us (Done vs) h k = (
+  omega (arith, h.0, k.0),
+  λ e.
+      elim (cases_of (starts a ts)) [
+        | inl p ↦ omega (arith, h.1 p, k.0)
+        | inr p ↦ let q = h.2 p in
+            let m : starts b ts ≡ true = rest_true (starts a ts) (empty a) (starts b ts) p (sym (starts_both a b ts) ∙ e) in
+            let P : List Terminal → Type 0 = λ x. starts b x ≡ true in
+            let l : length us ≡ length ts = ap length q.0 in
+            omega (arith, k.1 (subst P (sym q.0) m), l)
+      ],
+  λ e.
+      let none_of = sym (starts_both a b ts) ∙ e in
+      let p : starts a ts ≡ false = or_left (starts a ts) (empty a && starts b ts) none_of in
+      let q = h.2 p in
+      let m : starts b ts ≡ false = rest_false (starts a ts) (empty a) (starts b ts) q.1 none_of in
+      let P : List Terminal → Type 0 = λ x. starts b x ≡ false in
+      let z = k.2 (subst P (sym q.0) m) in
+      (z.0 ∙ q.0, both_true (empty a) (empty b) q.1 z.1),
+)
   where
     rest_true : (p e q : Bool) → p ≡ false → (p || (e && q)) ≡ true → q ≡ true
     rest_true true e q h k = cc
     rest_true false true q h k = k
     rest_true false false q h k = cc
+
     or_left : (p q : Bool) → (p || q) ≡ false → p ≡ false
     or_left true q h = h
     or_left false q h = refl
+
     rest_false : (p e q : Bool) → e ≡ true → (p || (e && q)) ≡ false → q ≡ false
     rest_false true e q h k = cc
     rest_false false true q h k = k
@@ -98,14 +101,16 @@ leaves_left a b ts (Stop us) p h = tt
 leaves_left a b ts (Deep us) p h = tt
 
 leaves_right : (a b : Pattern) (ts : List Terminal) (o : Outcome) → starts a ts ≡ false → Leaves b ts o → Leaves (either a b) ts o
-leaves_right a b ts (Done us) p h =
-    (h.0
-    , λ e. h.1 (second (starts a ts) (starts b ts) true p (sym (starts_either a b ts) ∙ e))
-    , λ e. let q = h.2 (second (starts a ts) (starts b ts) false p (sym (starts_either a b ts) ∙ e)) in (q.0, or_true (empty a) (empty b) q.1))
+leaves_right a b ts (Done us) p h = (
+  h.0,
+  λ e. h.1 (second (starts a ts) (starts b ts) true p (sym (starts_either a b ts) ∙ e)),
+  λ e. let q = h.2 (second (starts a ts) (starts b ts) false p (sym (starts_either a b ts) ∙ e)) in (q.0, or_true (empty a) (empty b) q.1),
+)
   where
     second : (p q r : Bool) → p ≡ false → (p || q) ≡ r → q ≡ r
     second true q r h k = cc
     second false q r h k = k
+
     or_true : (p q : Bool) → q ≡ true → (p || q) ≡ true
     or_true true q h = refl
     or_true false q h = h
@@ -222,7 +227,7 @@ gives_too_deep n a ts at e h =
     (omega (arith, q.0), subst P (sym q.1) (run_too_deep h))
 
 pub gives_region : (n : ℕ) (a : Pattern) (ts : List Terminal) (at : ℕ) (res : Result ℕ Fault) → is_next LeftBrace (drop at ts) ≡ true → n < 12
-  → Gives (n + 1) (both a (one RightBrace)) ts (at + 1) res → Gives n (region a) ts at res
+    → Gives (n + 1) (both a (one RightBrace)) ts (at + 1) res → Gives n (region a) ts at res
 gives_region n a ts at (Ok next) e h g =
     let q = found LeftBrace ts at e in
     let P : List Terminal → Type 0 = λ x. Runs n (region a) x (Done (drop next ts)) in
@@ -238,9 +243,9 @@ gives_region n a ts at (Err (TooDeep k)) e h g =
 gives_region n a ts at (Err NoMemory) e h g = tt
 
 pub gives_region_fails : (n : ℕ) (a : Pattern) (ts : List Terminal) (at : ℕ) (e : Fault) → is_next LeftBrace (drop at ts) ≡ true → n < 12
-  → Gives (n + 1) a ts (at + 1) (Err e) → Gives n (region a) ts at (Err e)
+    → Gives (n + 1) a ts (at + 1) (Err e) → Gives n (region a) ts at (Err e)
 gives_region_fails n a ts at e h k g = gives_region n a ts at (Err e) h k (gives_both_fails (n + 1) a (one RightBrace) ts (at + 1) e g)
 
 pub gives_region_ends : (n : ℕ) (a : Pattern) (ts : List Terminal) (at mid : ℕ) (res : Result ℕ Fault) → is_next LeftBrace (drop at ts) ≡ true → n < 12
-  → Gives (n + 1) a ts (at + 1) (Ok mid) → Gives (n + 1) (one RightBrace) ts mid res → Gives n (region a) ts at res
+    → Gives (n + 1) a ts (at + 1) (Ok mid) → Gives (n + 1) (one RightBrace) ts mid res → Gives n (region a) ts at res
 gives_region_ends n a ts at mid res h k g m = gives_region n a ts at res h k (gives_both (n + 1) a (one RightBrace) ts (at + 1) mid res g m)

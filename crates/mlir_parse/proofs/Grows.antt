@@ -41,12 +41,12 @@ module _ (ts : List Terminal) where
   grows_nothing n at old = record { trees = none; grown = sym (join-none (forest old)); derived = derive_nothing }
 
   pub grows_one : (n : ℕ) (c : Terminal) (at : ℕ) (old new : List Branch) (b : Branch)
-    → new ≡ old ++ b ∷ [] → ((rest : Forest) → put b rest ≡ node Leaf at none rest) → is_next c (drop at ts) ≡ true → Grows ts n (one c) at old new (at + 1)
+      → new ≡ old ++ b ∷ [] → ((rest : Forest) → put b rest ≡ node Leaf at none rest) → is_next c (drop at ts) ≡ true → Grows ts n (one c) at old new (at + 1)
   grows_one n c at old new b e p h =
       record { trees = node Leaf at none none; grown = forest_pushed old new b (node Leaf at none none) e (p none); derived = derive_one (token_at c ts at h) refl }
 
   pub grows_line : (n : ℕ) (f : Form) (r : Pattern) (at next : ℕ) (old new parts : List Branch) (b : Branch)
-    → new ≡ old ++ b ∷ [] → ((rest : Forest) → put b rest ≡ node f at (forest parts) rest) → r ≡ body f → Grows ts n r at [] parts next → Grows ts n (line f) at old new next
+      → new ≡ old ++ b ∷ [] → ((rest : Forest) → put b rest ≡ node f at (forest parts) rest) → r ≡ body f → Grows ts n r at [] parts next → Grows ts n (line f) at old new next
   grows_line n f r at next old new parts b e p k g =
       let P : Pattern → Type 0 = λ x. Derives ts n x at g.trees next in
       record {
@@ -70,8 +70,8 @@ module _ (ts : List Terminal) where
   grows_right n a b at next old new g = record { trees = g.trees; grown = g.grown; derived = derive_right g.derived }
 
   pub grows_region : (n : ℕ) (a : Pattern) (at mid next : ℕ) (old opened middle new : List Branch) (b : Branch)
-    → n < 12 → opened ≡ old ++ b ∷ [] → ((rest : Forest) → put b rest ≡ node Leaf at none rest) → is_next LeftBrace (drop at ts) ≡ true
-    → Grows ts (n + 1) a (at + 1) opened middle mid → Grows ts (n + 1) (one RightBrace) mid middle new next → Grows ts n (region a) at old new next
+      → n < 12 → opened ≡ old ++ b ∷ [] → ((rest : Forest) → put b rest ≡ node Leaf at none rest) → is_next LeftBrace (drop at ts) ≡ true
+      → Grows ts (n + 1) a (at + 1) opened middle mid → Grows ts (n + 1) (one RightBrace) mid middle new next → Grows ts n (region a) at old new next
   grows_region n a at mid next old opened middle new b shallow e p h g k =
       let first = grows_one (n + 1) LeftBrace at old opened b e p h in
       let rest = grows_both (n + 1) a (one RightBrace) (at + 1) mid next opened middle new g k in

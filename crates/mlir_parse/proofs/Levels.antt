@@ -37,10 +37,10 @@ level_weaker bound n m (c ∷ x) level = (omega (arith, level.0), level.1, level
 step_shift : (n : ℕ) (c : Terminal) → (closes c ≡ true → 0 < n) → step (suc n) c ≡ suc (step n c)
 step_shift n c some =
     elim (cases_Bool (opens c)) [
-      inl up ↦ rw up (omega arith)
-    | inr still ↦ elim (cases_Bool (closes c)) [
-        inl down ↦ let positive : 0 < n = some down in rw (still, down) (omega (arith, positive))
-      | inr same ↦ rw (still, same) refl
+      | inl up ↦ rw up (omega arith)
+      | inr still ↦ elim (cases_Bool (closes c)) [
+        | inl down ↦ let positive : 0 < n = some down in rw (still, down) (omega (arith, positive))
+        | inr same ↦ rw (still, same) refl
       ]
     ]
 
@@ -68,8 +68,8 @@ plain (region a) = plain a
 plain_body : (f : Form) → not (is_whole f) ≡ true → plain (body f) ≡ true
 plain_body f h =
     elim (or_cases (is_whole f) (plain (body f)) (every_form (λ g. is_whole g || plain (body g)) refl f)) [
-      inl whole ↦ absurd (both_ways (is_whole f) (not-true (is_whole f) h) whole)
-    | inr is ↦ is
+      | inl whole ↦ absurd (both_ways (is_whole f) (not-true (is_whole f) h) whole)
+      | inr is ↦ is
     ]
 
 -- a front was read, with so many regions open behind it
@@ -92,41 +92,36 @@ reached_both n m k ts us vs (x, e, l) (y, f, r) = (x ++ y, e ∙ ap (λ z. x ++ 
 
 level_both : (n : ℕ) (ts us : List Terminal) (o : Outcome) → Reached n ts us n → LevelOf n us o → LevelOf n ts o
 level_both n ts us (Done vs) first rest = reached_both n n n ts us vs first rest
-level_both n ts us (Stop vs) first rest = (rest.0, reached_both n n rest.0 ts us vs first (rest.1, rest.2, rest.3))
+level_both n ts us (Stop vs) first rest = (rest.0, reached_both n n rest.0 ts us vs first rest.1)
 level_both n ts us (Deep vs) first rest = (reached_both n n 12 ts us vs first rest.0, rest.1)
 
 -- a run over one token
 pub of_run_one : {n : ℕ} {c : Terminal} {ts : List Terminal} {o : Outcome} → Runs n (one c) ts o
-  → ((us : List Terminal) × (ts ≡ c ∷ us) × (o ≡ Done us)) ⊎ (o ≡ Stop ts)
+    → ((us : List Terminal) × (ts ≡ c ∷ us) × (o ≡ Done us)) ⊎ (o ≡ Stop ts)
 of_run_one (run_one {ts = us}) = inl (us, refl, refl)
 of_run_one (run_other h) = inr refl
 
-closed_by : (n : ℕ) (ts us : List Terminal) (o : Outcome) → Reached (suc n) ts us (suc n)
-  → ((vs : List Terminal) × (us ≡ RightBrace ∷ vs) × (o ≡ Done vs)) ⊎ (o ≡ Stop us) → ClosedOf n ts o
-closed_by n ts us o first (inl (vs, e, is)) =
+closed_by : (n : ℕ) (ts us : List Terminal) (o : Outcome) → n < 12 → Reached (suc n) ts us (suc n)
+    → ((vs : List Terminal) × (us ≡ RightBrace ∷ vs) × (o ≡ Done vs)) ⊎ (o ≡ Stop us) → ClosedOf n ts o
+closed_by n ts us o low first (inl (vs, e, is)) =
     let last : Level 12 (suc n) (RightBrace ∷ []) n = (omega arith, λ _. omega arith, omega arith) in
     let end : us ≡ (RightBrace ∷ []) ++ vs = e in
     subst (ClosedOf n ts) (sym is) (reached_both (suc n) (suc n) n ts us vs first (RightBrace ∷ [], end, last))
-closed_by n ts us o first (inr is) = subst (ClosedOf n ts) (sym is) (suc n, first)
+closed_by n ts us o low first (inr is) = subst (ClosedOf n ts) (sym is) (suc n, first)
 
 closed_fails : (n : ℕ) (ts : List Terminal) (o : Outcome) → Fails o → LevelOf (suc n) ts o → ClosedOf n ts o
 closed_fails n ts (Done us) failed level = absurd failed
 closed_fails n ts (Stop us) failed level = level
 closed_fails n ts (Deep us) failed level = level
 
+-- a brace that opens a region stands before it
+opened_front : (n m : ℕ) (x : List Terminal) → n < 12 → Level 12 (suc n) x m → Level 12 n (LeftBrace ∷ x) m
+opened_front n m x low l = let up : step n LeftBrace ≡ suc n = omega arith in (omega arith, λ e. cc, subst (λ z. Level 12 z x m) (sym up) l)
+
 opened_by : (n : ℕ) (ts : List Terminal) (o : Outcome) → n < 12 → ClosedOf n ts o → LevelOf n (LeftBrace ∷ ts) o
-opened_by n ts (Done us) low (x, e, l) = (LeftBrace ∷ x, ap (λ z. LeftBrace ∷ z) e, front n n x low l)
-  where
-    front : (n m : ℕ) (x : List Terminal) → n < 12 → Level 12 (suc n) x m → Level 12 n (LeftBrace ∷ x) m
-    front n m x low l = let up : step n LeftBrace ≡ suc n = omega arith in (omega arith, λ e. cc, subst (λ z. Level 12 z x m) (sym up) l)
-opened_by n ts (Stop us) low (m, x, e, l) = (m, (LeftBrace ∷ x, ap (λ z. LeftBrace ∷ z) e, front n m x low l))
-  where
-    front : (n m : ℕ) (x : List Terminal) → n < 12 → Level 12 (suc n) x m → Level 12 n (LeftBrace ∷ x) m
-    front n m x low l = let up : step n LeftBrace ≡ suc n = omega arith in (omega arith, λ e. cc, subst (λ z. Level 12 z x m) (sym up) l)
-opened_by n ts (Deep us) low ((x, e, l), brace) = ((LeftBrace ∷ x, ap (λ z. LeftBrace ∷ z) e, front n 12 x low l), brace)
-  where
-    front : (n m : ℕ) (x : List Terminal) → n < 12 → Level 12 (suc n) x m → Level 12 n (LeftBrace ∷ x) m
-    front n m x low l = let up : step n LeftBrace ≡ suc n = omega arith in (omega arith, λ e. cc, subst (λ z. Level 12 z x m) (sym up) l)
+opened_by n ts (Done us) low (x, e, l) = (LeftBrace ∷ x, ap (λ z. LeftBrace ∷ z) e, opened_front n n x low l)
+opened_by n ts (Stop us) low (m, (x, e, l)) = (m, (LeftBrace ∷ x, ap (λ z. LeftBrace ∷ z) e, opened_front n m x low l))
+opened_by n ts (Deep us) low ((x, e, l), brace) = ((LeftBrace ∷ x, ap (λ z. LeftBrace ∷ z) e, opened_front n 12 x low l), brace)
 
 one_level : (n : ℕ) (c : Terminal) → (not (opens c) && not (closes c)) ≡ true → n ≤ 12 → Level 12 n (c ∷ []) n
 one_level n c p low =
@@ -136,27 +131,24 @@ one_level n c p low =
     let still : step n c ≡ n = rw (no_open, no_close) refl in
     (omega (arith, still), λ e. absurd (both_ways (closes c) no_close e), still)
 
-mutual
-  pub level : {n : ℕ} {r : Pattern} {ts : List Terminal} {o : Outcome} → Runs n r ts o → plain r ≡ true → n ≤ 12 → LevelOf n ts o
-  level run_nothing p low = ([], refl, refl)
-  level (run_one {n} {c}) p low = (c ∷ [], refl, one_level n c p low)
-  level (run_other {n} h) p low = (n, ([], refl, refl))
-  level (run_line {f = f} d) p low = level d (plain_body f p) low
-  level (run_both {n} {a} {b} {ts} {us} {o} d k) p low =
-      let parts = and_parts (plain a) (plain b) p in level_both n ts us o (level d parts.0 low) (level k parts.1 low)
-  level (run_both_fails {a = a} {b = b} d h) p low = level d (and_parts (plain a) (plain b) p).0 low
-  level (run_left {a = a} {b = b} h d) p low = level d (and_parts (plain a) (plain b) p).0 low
-  level (run_right {a = a} {b = b} h d) p low = level d (and_parts (plain a) (plain b) p).1 low
-  level (run_enough h) p low = ([], refl, refl)
-  level (run_again {n} {a} {ts} {us} {o} h d k) p low = level_both n ts us o (level d p low) (level k p low)
-  level (run_again_fails h d k) p low = level d p low
-  level (run_no_brace {n} h) p low = (n, ([], refl, refl))
-  level (run_too_deep {ts = ts} h) p low = (([], refl, omega arith), (ts, refl))
-  level (run_region {n} {a} {ts} {o} h d) p low = opened_by n ts o h (level_closed n d p h)
-
-  level_closed : {a : Pattern} {ts : List Terminal} {o : Outcome} (n : ℕ) → Runs (n + 1) (both a (one RightBrace)) ts o → plain a ≡ true → n < 12 → ClosedOf n ts o
-  level_closed n (run_both {ts = ts} {us = us} {o = o} d k) p low =
-      let first = level d p (omega arith) in
-      closed_by n ts us o (subst (λ z. Reached z ts us z) (add-one n) first) (of_run_one k)
-  level_closed n (run_both_fails {ts = ts} {o = o} d h) p low =
-      closed_fails n ts o h (subst (λ z. LevelOf z ts o) (add-one n) (level d p (omega arith)))
+-- how many regions are open behind what was read, at most twelve
+pub level : {n : ℕ} {r : Pattern} {ts : List Terminal} {o : Outcome} → Runs n r ts o → plain r ≡ true → n ≤ 12 → LevelOf n ts o
+level run_nothing p low = ([], refl, refl)
+level (run_one {n} {c}) p low = (c ∷ [], refl, one_level n c p low)
+level (run_other {n} h) p low = (n, ([], refl, refl))
+level (run_line {f = f} d) p low = level d (plain_body f p) low
+level (run_both {n} {a} {b} {ts} {us} {o} d k) p low =
+    let parts = and_parts (plain a) (plain b) p in level_both n ts us o (level d parts.0 low) (level k parts.1 low)
+level (run_both_fails {a = a} {b = b} d h) p low = level d (and_parts (plain a) (plain b) p).0 low
+level (run_left {a = a} {b = b} h d) p low = level d (and_parts (plain a) (plain b) p).0 low
+level (run_right {a = a} {b = b} h d) p low = level d (and_parts (plain a) (plain b) p).1 low
+level (run_enough h) p low = ([], refl, refl)
+level (run_again {n} {a} {ts} {us} {o} h d k) p low = level_both n ts us o (level d p low) (level k p low)
+level (run_again_fails h d k) p low = level d p low
+level (run_no_brace {n} h) p low = (n, ([], refl, refl))
+level (run_too_deep {ts = ts} h) p low = (([], refl, omega arith), (ts, refl))
+level (run_region {n} {ts = ts} {o = o} h (run_both {us = us} d k)) p low =
+    let first = subst (λ z. Reached z ts us z) (add-one n) (level d p (omega arith)) in
+    opened_by n ts o h (closed_by n ts us o h first (of_run_one k))
+level (run_region {n} {ts = ts} {o = o} h (run_both_fails d f)) p low =
+    opened_by n ts o h (closed_fails n ts o f (subst (λ z. LevelOf z ts o) (add-one n) (level d p (omega arith))))

@@ -7,7 +7,13 @@ pub mod Viable
 pub mod Places
 pub mod Gives
 pub mod Ranks
+pub mod Levels
+pub mod Tops
 pub mod Wholes
 pub mod Grows
 pub mod Unique
 pub mod Table
+pub mod Roots
+pub mod Hopes
+pub mod Parsed
+pub mod Laws

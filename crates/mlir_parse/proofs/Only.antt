@@ -60,20 +60,22 @@ not_this a ss (c ∷ ts) (b ∷ us) e full h d =
     refuted false false s h k m = cc
 
 only_both : (a b : Pattern) (ts us : List Terminal) (o : Outcome) → Only a ts (Done us) → Only b us o → Only (both a b) ts o
-only_both a b ts us (Done vs) (x, e, g) (y, f, k) =
-    (x ++ y
-    , e ∙ ap (λ z. x ++ z) f ∙ sym (append_assoc x y vs)
-    , λ ss w fits n d.
-    let d2 = subst (Accepts (a ∷ b ∷ ss)) (append_assoc x y w) (of_both d) in
-    let n2 : next (y ++ w) ≡ next us = next_front y w vs n ∙ ap next (sym f) in
-    k ss w (fits.0.1, fits.1) n (g (b ∷ ss) (y ++ w) (fits.0.0, (fits.0.1, fits.1)) n2 d2))
-only_both a b ts us (Stop vs) (x, e, g) (y, f, k) =
-    (x ++ y
-    , e ∙ ap (λ z. x ++ z) f ∙ sym (append_assoc x y vs)
-    , λ ss w fits n d.
-    let d2 = subst (Accepts (a ∷ b ∷ ss)) (append_assoc x y w) (of_both d) in
-    let n2 : next (y ++ w) ≡ next us = next_front y w vs n ∙ ap next (sym f) in
-    k ss w (fits.0.1, fits.1) n (g (b ∷ ss) (y ++ w) (fits.0.0, (fits.0.1, fits.1)) n2 d2))
+only_both a b ts us (Done vs) (x, e, g) (y, f, k) = (
+  x ++ y,
+  e ∙ ap (λ z. x ++ z) f ∙ sym (append_assoc x y vs),
+  λ ss w fits n d.
+      let d2 = subst (Accepts (a ∷ b ∷ ss)) (append_assoc x y w) (of_both d) in
+      let n2 : next (y ++ w) ≡ next us = next_front y w vs n ∙ ap next (sym f) in
+      k ss w (fits.0.1, fits.1) n (g (b ∷ ss) (y ++ w) (fits.0.0, (fits.0.1, fits.1)) n2 d2),
+)
+only_both a b ts us (Stop vs) (x, e, g) (y, f, k) = (
+  x ++ y,
+  e ∙ ap (λ z. x ++ z) f ∙ sym (append_assoc x y vs),
+  λ ss w fits n d.
+      let d2 = subst (Accepts (a ∷ b ∷ ss)) (append_assoc x y w) (of_both d) in
+      let n2 : next (y ++ w) ≡ next us = next_front y w vs n ∙ ap next (sym f) in
+      k ss w (fits.0.1, fits.1) n (g (b ∷ ss) (y ++ w) (fits.0.0, (fits.0.1, fits.1)) n2 d2),
+)
 only_both a b ts us (Deep vs) p q = tt
 
 only_both_fails : (a b : Pattern) (ts : List Terminal) (o : Outcome) → Fails o → Only a ts o → Only (both a b) ts o
@@ -90,82 +92,90 @@ still : (x w us ts : List Terminal) → next w ≡ next us → ts ≡ x ++ us �
 still x w us ts n e = next_front x w us n ∙ ap next (sym e)
 
 only_left : (a b : Pattern) (ts : List Terminal) (o : Outcome) → starts a ts ≡ true → Only a ts o → Only (either a b) ts o
-only_left a b ts (Done us) begins (x, e, g) =
-    (x
-    , e
-    , λ ss w fits n d.
-    elim (of_either d) [
-      inl p ↦ g ss w (fits.0.2, fits.1) n p
-    | inr q ↦ absurd (not_other a (b ∷ ss) ts (x ++ w) (still x w us ts n e) fits.0.1 begins q)
-    ])
-only_left a b ts (Stop us) begins (x, e, g) =
-    (x
-    , e
-    , λ ss w fits n d.
-    elim (of_either d) [
-      inl p ↦ g ss w (fits.0.2, fits.1) n p
-    | inr q ↦ not_other a (b ∷ ss) ts (x ++ w) (still x w us ts n e) fits.0.1 begins q
-    ])
+only_left a b ts (Done us) begins (x, e, g) = (
+  x,
+  e,
+  λ ss w fits n d.
+      elim (of_either d) [
+        | inl p ↦ g ss w (fits.0.2, fits.1) n p
+        | inr q ↦ absurd (not_other a (b ∷ ss) ts (x ++ w) (still x w us ts n e) fits.0.1 begins q)
+      ],
+)
+only_left a b ts (Stop us) begins (x, e, g) = (
+  x,
+  e,
+  λ ss w fits n d.
+      elim (of_either d) [
+        | inl p ↦ g ss w (fits.0.2, fits.1) n p
+        | inr q ↦ not_other a (b ∷ ss) ts (x ++ w) (still x w us ts n e) fits.0.1 begins q
+      ],
+)
 only_left a b ts (Deep us) begins p = tt
 
 only_right : (a b : Pattern) (ts : List Terminal) (o : Outcome) → starts a ts ≡ false → Only b ts o → Only (either a b) ts o
-only_right a b ts (Done us) stops (x, e, g) =
-    (x
-    , e
-    , λ ss w fits n d.
-    elim (of_either d) [
-      inl p ↦ absurd (not_this a ss ts (x ++ w) (still x w us ts n e) fits.0.0 stops p)
-    | inr q ↦ g ss w (fits.0.3, fits.1) n q
-    ])
-only_right a b ts (Stop us) stops (x, e, g) =
-    (x
-    , e
-    , λ ss w fits n d.
-    elim (of_either d) [
-      inl p ↦ not_this a ss ts (x ++ w) (still x w us ts n e) fits.0.0 stops p
-    | inr q ↦ g ss w (fits.0.3, fits.1) n q
-    ])
+only_right a b ts (Done us) stops (x, e, g) = (
+  x,
+  e,
+  λ ss w fits n d.
+      elim (of_either d) [
+        | inl p ↦ absurd (not_this a ss ts (x ++ w) (still x w us ts n e) fits.0.0 stops p)
+        | inr q ↦ g ss w (fits.0.3, fits.1) n q
+      ],
+)
+only_right a b ts (Stop us) stops (x, e, g) = (
+  x,
+  e,
+  λ ss w fits n d.
+      elim (of_either d) [
+        | inl p ↦ not_this a ss ts (x ++ w) (still x w us ts n e) fits.0.0 stops p
+        | inr q ↦ g ss w (fits.0.3, fits.1) n q
+      ],
+)
 only_right a b ts (Deep us) stops p = tt
 
 only_enough : (a : Pattern) (ts : List Terminal) → starts a ts ≡ false → Only (many a) ts (Done ts)
-only_enough a ts stops =
-    ([]
-    , refl
-    , λ ss w fits n d. elim (of_many d) [ inl p ↦ absurd (not_this a (many a ∷ ss) ts w n fits.0.0 stops p) | inr q ↦ q ])
+only_enough a ts stops = (
+  [],
+  refl,
+  λ ss w fits n d. elim (of_many d) [ inl p ↦ absurd (not_this a (many a ∷ ss) ts w n fits.0.0 stops p) | inr q ↦ q ],
+)
 
 only_again : (a : Pattern) (ts us : List Terminal) (o : Outcome) → starts a ts ≡ true → Only a ts (Done us) → Only (many a) us o → Only (many a) ts o
-only_again a ts us (Done vs) begins (x, e, g) (y, f, k) =
-    (x ++ y
-    , e ∙ ap (λ z. x ++ z) f ∙ sym (append_assoc x y vs)
-    , λ ss w fits n d.
-    let whole : ts ≡ (x ++ y) ++ vs = e ∙ ap (λ z. x ++ z) f ∙ sym (append_assoc x y vs) in
-    let n2 : next (y ++ w) ≡ next us = next_front y w vs n ∙ ap next (sym f) in
-    elim (of_many d) [
-      inl p ↦ k ss w fits n (g (many a ∷ ss) (y ++ w) (fits.0.2, fits) n2 (subst (Accepts (a ∷ many a ∷ ss)) (append_assoc x y w) p))
-    | inr q ↦ absurd (not_other a ss ts ((x ++ y) ++ w) (still (x ++ y) w vs ts n whole) fits.0.1 begins q)
-    ])
-only_again a ts us (Stop vs) begins (x, e, g) (y, f, k) =
-    (x ++ y
-    , e ∙ ap (λ z. x ++ z) f ∙ sym (append_assoc x y vs)
-    , λ ss w fits n d.
-    let whole : ts ≡ (x ++ y) ++ vs = e ∙ ap (λ z. x ++ z) f ∙ sym (append_assoc x y vs) in
-    let n2 : next (y ++ w) ≡ next us = next_front y w vs n ∙ ap next (sym f) in
-    elim (of_many d) [
-      inl p ↦ k ss w fits n (g (many a ∷ ss) (y ++ w) (fits.0.2, fits) n2 (subst (Accepts (a ∷ many a ∷ ss)) (append_assoc x y w) p))
-    | inr q ↦ not_other a ss ts ((x ++ y) ++ w) (still (x ++ y) w vs ts n whole) fits.0.1 begins q
-    ])
+only_again a ts us (Done vs) begins (x, e, g) (y, f, k) = (
+  x ++ y,
+  e ∙ ap (λ z. x ++ z) f ∙ sym (append_assoc x y vs),
+  λ ss w fits n d.
+      let whole : ts ≡ (x ++ y) ++ vs = e ∙ ap (λ z. x ++ z) f ∙ sym (append_assoc x y vs) in
+      let n2 : next (y ++ w) ≡ next us = next_front y w vs n ∙ ap next (sym f) in
+      elim (of_many d) [
+        | inl p ↦ k ss w fits n (g (many a ∷ ss) (y ++ w) (fits.0.2, fits) n2 (subst (Accepts (a ∷ many a ∷ ss)) (append_assoc x y w) p))
+        | inr q ↦ absurd (not_other a ss ts ((x ++ y) ++ w) (still (x ++ y) w vs ts n whole) fits.0.1 begins q)
+      ],
+)
+only_again a ts us (Stop vs) begins (x, e, g) (y, f, k) = (
+  x ++ y,
+  e ∙ ap (λ z. x ++ z) f ∙ sym (append_assoc x y vs),
+  λ ss w fits n d.
+      let whole : ts ≡ (x ++ y) ++ vs = e ∙ ap (λ z. x ++ z) f ∙ sym (append_assoc x y vs) in
+      let n2 : next (y ++ w) ≡ next us = next_front y w vs n ∙ ap next (sym f) in
+      elim (of_many d) [
+        | inl p ↦ k ss w fits n (g (many a ∷ ss) (y ++ w) (fits.0.2, fits) n2 (subst (Accepts (a ∷ many a ∷ ss)) (append_assoc x y w) p))
+        | inr q ↦ not_other a ss ts ((x ++ y) ++ w) (still (x ++ y) w vs ts n whole) fits.0.1 begins q
+      ],
+)
 only_again a ts us (Deep vs) begins p q = tt
 
 only_again_fails : (a : Pattern) (ts : List Terminal) (o : Outcome) → Fails o → starts a ts ≡ true → Only a ts o → Only (many a) ts o
 only_again_fails a ts (Done vs) failed begins p = absurd failed
-only_again_fails a ts (Stop vs) failed begins (x, e, g) =
-    (x
-    , e
-    , λ ss w fits n d.
-    elim (of_many d) [
-      inl p ↦ g (many a ∷ ss) w (fits.0.2, fits) n p
-    | inr q ↦ not_other a ss ts (x ++ w) (still x w vs ts n e) fits.0.1 begins q
-    ])
+only_again_fails a ts (Stop vs) failed begins (x, e, g) = (
+  x,
+  e,
+  λ ss w fits n d.
+      elim (of_many d) [
+        | inl p ↦ g (many a ∷ ss) w (fits.0.2, fits) n p
+        | inr q ↦ not_other a ss ts (x ++ w) (still x w vs ts n e) fits.0.1 begins q
+      ],
+)
 only_again_fails a ts (Deep vs) failed begins p = tt
 
 not_next : (c : Terminal) (ts w us : List Terminal) → next w ≡ next ts → w ≡ c ∷ us → is_next c ts ≡ false → ⊥
@@ -179,22 +189,24 @@ not_next c (b ∷ ts) w us n e h =
     cc
 
 only_region : (a : Pattern) (ts : List Terminal) (o : Outcome) → Only (both a (one RightBrace)) ts o → Only (region a) (LeftBrace ∷ ts) o
-only_region a ts (Done us) (x, e, g) =
-    (LeftBrace ∷ x
-    , ap (λ z. LeftBrace ∷ z) e
-    , λ ss w fits n d.
-    let opened = of_one (of_deep d) in
-    let inside = subst (Accepts (a ∷ one RightBrace ∷ ss)) (sym (tail_of opened.1)) opened.2 in
-    let deeper = fits_deep a ss fits in
-    g ss w ((deeper.0, tt), deeper.1.1) n (in_turn inside))
-only_region a ts (Stop us) (x, e, g) =
-    (LeftBrace ∷ x
-    , ap (λ z. LeftBrace ∷ z) e
-    , λ ss w fits n d.
-    let opened = of_one (of_deep d) in
-    let inside = subst (Accepts (a ∷ one RightBrace ∷ ss)) (sym (tail_of opened.1)) opened.2 in
-    let deeper = fits_deep a ss fits in
-    g ss w ((deeper.0, tt), deeper.1.1) n (in_turn inside))
+only_region a ts (Done us) (x, e, g) = (
+  LeftBrace ∷ x,
+  ap (λ z. LeftBrace ∷ z) e,
+  λ ss w fits n d.
+      let opened = of_one (of_deep d) in
+      let inside = subst (Accepts (a ∷ one RightBrace ∷ ss)) (sym (tail_of opened.1)) opened.2 in
+      let deeper = fits_deep a ss fits in
+      g ss w ((deeper.0, tt), deeper.1.1) n (in_turn inside),
+)
+only_region a ts (Stop us) (x, e, g) = (
+  LeftBrace ∷ x,
+  ap (λ z. LeftBrace ∷ z) e,
+  λ ss w fits n d.
+      let opened = of_one (of_deep d) in
+      let inside = subst (Accepts (a ∷ one RightBrace ∷ ss)) (sym (tail_of opened.1)) opened.2 in
+      let deeper = fits_deep a ss fits in
+      g ss w ((deeper.0, tt), deeper.1.1) n (in_turn inside),
+)
 only_region a ts (Deep us) p = tt
 
 pub only : {n : ℕ} {r : Pattern} {ts : List Terminal} {o : Outcome} → Runs n r ts o → Only r ts o

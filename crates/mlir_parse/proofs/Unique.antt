@@ -59,7 +59,7 @@ joined_same : (xs xs' ys ys' zs zs' : Forest) → xs ≡ xs' → ys ≡ ys' → 
 joined_same xs xs' ys ys' zs zs' p q e f = e ∙ ap (λ x. join x ys) p ∙ ap (join xs') q ∙ sym f
 
 pub unique : {ts : List Terminal} {depth : ℕ} {r : Pattern} {at m n : ℕ} {xs ys : Forest} → Derives ts depth r at xs m → Derives ts depth r at ys n
-  → (ss : List Pattern) → Fits (r ∷ ss) → Accepts ss (drop m ts) → Accepts ss (drop n ts) → Same m n xs ys
+    → (ss : List Pattern) → Fits (r ∷ ss) → Accepts ss (drop m ts) → Accepts ss (drop n ts) → Same m n xs ys
 unique derive_nothing derive_nothing ss fits x y = record { place = refl; trees = refl }
 unique (derive_one h e) (derive_one k q) ss fits x y = record { place = e ∙ sym q; trees = refl }
 unique (derive_line {at = at} {f = f} d) (derive_line k) ss fits x y =

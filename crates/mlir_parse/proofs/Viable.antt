@@ -60,14 +60,15 @@ ready_all (region a) = ready_all a
 pub completes : (r : Pattern) → Completes r
 completes r = completes_with (λ f. true) (λ f h. completes_line 9 f (all_ready f)) r (ready_all r)
 
--- what was read, and how a text goes on from there
-abbrev pub Begins : Pattern → List Terminal → List Terminal → Type 0
-Begins r ts us = (x : List Terminal) × (ts ≡ x ++ us) × ((ss : List Pattern) (u : List Terminal) → Accepts ss u → (v : List Terminal) × Accepts (r ∷ ss) (x ++ v))
+-- what was read, and how a text goes on from there, with these tokens first
+abbrev pub Begins : List Terminal → Pattern → List Terminal → List Terminal → Type 0
+Begins more r ts us =
+    (x : List Terminal) × (ts ≡ x ++ us) × ((ss : List Pattern) (u : List Terminal) → Accepts ss u → (v : List Terminal) × Accepts (r ∷ ss) (x ++ (more ++ v)))
 
 abbrev pub Viable : Pattern → List Terminal → Outcome → Type 0
 Viable r ts (Done us) = (x : List Terminal) × (ts ≡ x ++ us) × ((ss : List Pattern) (u : List Terminal) → Accepts ss u → Accepts (r ∷ ss) (x ++ u))
-Viable r ts (Stop us) = Begins r ts us
-Viable r ts (Deep us) = Begins r ts us
+Viable r ts (Stop us) = Begins [] r ts us
+Viable r ts (Deep us) = Begins (LeftBrace ∷ []) r ts us
 
 viable_line : (f : Form) (ts : List Terminal) (o : Outcome) → Viable (body f) ts o → Viable (line f) ts o
 viable_line f ts (Done us) (x, e, g) = (x, e, λ ss u d. by_line (g ss u d))
@@ -87,29 +88,31 @@ viable_right a b ts (Deep us) (x, e, g) = (x, e, λ ss u d. let q = g ss u d in 
 joined : (ts us vs x y : List Terminal) → ts ≡ x ++ us → us ≡ y ++ vs → ts ≡ (x ++ y) ++ vs
 joined ts us vs x y e f = e ∙ ap (λ z. x ++ z) f ∙ sym (append_assoc x y vs)
 
-begins_both : (a b : Pattern) (ts us vs : List Terminal) → Viable a ts (Done us) → Begins b us vs → Begins (both a b) ts vs
-begins_both a b ts us vs (x, e, g) (y, f, k) =
-    (x ++ y
-    , joined ts us vs x y e f
-    , λ ss u d.
-    let q = k ss u d in (q.0, in_turn (subst (Accepts (a ∷ b ∷ ss)) (sym (append_assoc x y q.0)) (g (b ∷ ss) (y ++ q.0) q.1))))
+begins_both : (more : List Terminal) (a b : Pattern) (ts us vs : List Terminal) → Viable a ts (Done us) → Begins more b us vs → Begins more (both a b) ts vs
+begins_both more a b ts us vs (x, e, g) (y, f, k) = (
+  x ++ y,
+  joined ts us vs x y e f,
+  λ ss u d.
+      let q = k ss u d in (q.0, in_turn (subst (Accepts (a ∷ b ∷ ss)) (sym (append_assoc x y (more ++ q.0))) (g (b ∷ ss) (y ++ (more ++ q.0)) q.1))),
+)
 
 viable_both : (a b : Pattern) (ts us : List Terminal) (o : Outcome) → Viable a ts (Done us) → Viable b us o → Viable (both a b) ts o
-viable_both a b ts us (Done vs) (x, e, g) (y, f, k) =
-    (x ++ y
-    , joined ts us vs x y e f
-    , λ ss u d. in_turn (subst (Accepts (a ∷ b ∷ ss)) (sym (append_assoc x y u)) (g (b ∷ ss) (y ++ u) (k ss u d))))
-viable_both a b ts us (Stop vs) p q = begins_both a b ts us vs p q
-viable_both a b ts us (Deep vs) p q = begins_both a b ts us vs p q
+viable_both a b ts us (Done vs) (x, e, g) (y, f, k) = (
+  x ++ y,
+  joined ts us vs x y e f,
+  λ ss u d. in_turn (subst (Accepts (a ∷ b ∷ ss)) (sym (append_assoc x y u)) (g (b ∷ ss) (y ++ u) (k ss u d))),
+)
+viable_both a b ts us (Stop vs) p q = begins_both [] a b ts us vs p q
+viable_both a b ts us (Deep vs) p q = begins_both (LeftBrace ∷ []) a b ts us vs p q
 
-begins_front : (a b : Pattern) (ts us : List Terminal) → Begins a ts us → Begins (both a b) ts us
-begins_front a b ts us (x, e, g) =
+begins_front : (more : List Terminal) (a b : Pattern) (ts us : List Terminal) → Begins more a ts us → Begins more (both a b) ts us
+begins_front more a b ts us (x, e, g) =
     (x, e, λ ss u d. let s = completes b ss u d in let q = g (b ∷ ss) s.0 s.1 in (q.0, in_turn q.1))
 
 viable_fails : (a b : Pattern) (ts : List Terminal) (o : Outcome) → Fails o → Viable a ts o → Viable (both a b) ts o
 viable_fails a b ts (Done us) failed p = absurd failed
-viable_fails a b ts (Stop us) failed p = begins_front a b ts us p
-viable_fails a b ts (Deep us) failed p = begins_front a b ts us p
+viable_fails a b ts (Stop us) failed p = begins_front [] a b ts us p
+viable_fails a b ts (Deep us) failed p = begins_front (LeftBrace ∷ []) a b ts us p
 
 -- many is one, and many again
 folds : (a : Pattern) (ts : List Terminal) (o : Outcome) → Viable (both a (many a)) ts o → Viable (many a) ts o
@@ -135,5 +138,6 @@ viable (run_enough h) = ([], refl, λ ss u d. enough d)
 viable (run_again {a} {ts} {us} {o} h d k) = folds a ts o (viable_both a (many a) ts us o (viable d) (viable k))
 viable (run_again_fails {a} {ts} {o} h d k) = folds a ts o (viable_fails a (many a) ts o k (viable d))
 viable (run_no_brace {a} h) = ([], refl, completes (region a))
-viable (run_too_deep {a} h) = ([], refl, completes (region a))
+viable (run_too_deep {a} h) =
+    ([], refl, λ ss u d. let inside = completes a (one RightBrace ∷ ss) (RightBrace ∷ u) (token d) in (inside.0, in_region (token inside.1)))
 viable (run_region {a} {ts} {o} h d) = opens a ts o (viable d)

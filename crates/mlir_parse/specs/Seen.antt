@@ -3,6 +3,7 @@ use Rattle.std.specs.Prelude.{ℕ, ◌≡◌, ◌<◌, ◌≤◌, List, length, 
 use Rattle.mlir_ir.specs.Grammar.{Pattern, nothing, one, line, both, either, many, region, body}
 use Rattle.mlir_parse.specs.Tables.{form_at}
 use Rattle.mlir_parse.specs.Runs.{Runs, Done, Stop, Deep}
+use Rattle.mlir_ir.specs.Texts.{IsSyntaxFault, IsTooDeep}
 use Rattle.mlir_ir.specs.Trees.{Forest, join, forest, Derives}
 use Rattle.mlir_ir.specs.declared.terminal.Terminal.{Terminal}
 use Rattle.mlir_ir.specs.declared.syntax.Branch.{Branch}
@@ -31,6 +32,12 @@ Gives n r ts at (Ok next) = (at ≤ next) × (next ≤ length ts) × Runs n r (d
 Gives n r ts at (Err (Syntax k)) = (k ≤ length ts) × Runs n r (drop at ts) (Stop (drop k ts))
 Gives n r ts at (Err (TooDeep k)) = (k ≤ length ts) × Runs n r (drop at ts) (Deep (drop k ts))
 Gives n r ts at (Err NoMemory) = Unit {0}
+
+-- the fault that the reader finds is that of the tokens
+abbrev pub IsFault : List Terminal → Fault → Type 0
+IsFault ts (Syntax k) = IsSyntaxFault ts k
+IsFault ts (TooDeep k) = IsTooDeep ts k
+IsFault ts NoMemory = Unit {0}
 
 -- the branches behind the old ones derive these tokens
 pub record Grows (ts : List Terminal) (n : ℕ) (r : Pattern) (at : ℕ) (old new : List Branch) (next : ℕ) : Type 0 where

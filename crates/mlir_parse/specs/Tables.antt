@@ -174,22 +174,22 @@ decides (region a) after = decides a (same RightBrace)
 -- how deep a line goes down, to its next region
 abbrev pub rank_line : Form → ℕ
 rank_line Leaf = 1
-rank_line Whole = 31
-rank_line Func = 22
-rank_line Params = 10
+rank_line Whole = 25
+rank_line Func = 18
+rank_line Params = 7
 rank_line Types = 6
 rank_line Results = 11
 rank_line TypeName = 1
 rank_line Body = 1
-rank_line Ends = 10
+rank_line Ends = 11
 rank_line Uses = 8
 rank_line Use = 3
-rank_line Op = 39
+rank_line Op = 34
 rank_line Pack = 4
-rank_line Kind = 37
-rank_line Inits = 12
+rank_line Kind = 32
+rank_line Inits = 8
 rank_line Region = 1
-rank_line Flags = 8
+rank_line Flags = 7
 
 -- how region a right side goes down, to its next in_region
 abbrev pub rank : Pattern → ℕ

@@ -2,9 +2,14 @@
 #![tactic(auto)]
 
 mod fault;
+mod hope;
+mod lines;
+mod parser;
 mod read;
 mod rule;
 mod terminals;
+#[cfg(test)]
+mod tests;
+mod tree;
 
-pub use fault::Fault;
-pub use terminals::terminal_of;
+pub use parser::{ParseFault, parse};

@@ -27,7 +27,14 @@ fn next_is(terminal: Terminal, tokens: &[Terminal], at: usize) -> bool
 
 /// Reads one token, and adds its branch.
 #[tactic(auto, using(crate::proofs::Gives::gives_one, crate::proofs::Gives::gives_other))]
-fn read_one(alloc: Global, out: &mut Vec<Branch>, terminal: Terminal, depth: usize, tokens: &[Terminal], at: usize) -> Result<usize, Fault>
+fn read_one(
+    alloc: Global,
+    out: &mut Vec<Branch>,
+    terminal: Terminal,
+    depth: usize,
+    tokens: &[Terminal],
+    at: usize,
+) -> Result<usize, Fault>
     requires within { at ≤ length tokens.now }
     requires few { length tokens.now < 2 ^ 32 }
     ensures gives { Gives depth (one terminal) tokens.now at result }
@@ -44,7 +51,15 @@ fn read_one(alloc: Global, out: &mut Vec<Branch>, terminal: Terminal, depth: usi
 /// Reads texts of the rule as long as one may begin, and adds their branches.
 #[cycle(reader)]
 #[tactic(auto, using(crate::proofs::Gives::gives_again, crate::proofs::Gives::gives_again_fails, crate::proofs::Gives::gives_enough, crate::proofs::Gives::goes_on))]
-fn read_many(alloc: Global, out: &mut Vec<Branch>, lines: &[Rule], rule: &Rule, depth: usize, tokens: &[Terminal], at: usize) -> Result<usize, Fault>
+fn read_many(
+    alloc: Global,
+    out: &mut Vec<Branch>,
+    lines: &[Rule],
+    rule: &Rule,
+    depth: usize,
+    tokens: &[Terminal],
+    at: usize,
+) -> Result<usize, Fault>
     requires lines { AreLines lines.now }
     requires small { weight (seen rule.now) < 1000 }
     requires within { at ≤ length tokens.now }
@@ -74,7 +89,15 @@ pub fn line_rule(lines: &[Rule], form: Form) -> &Rule
 /// Reads a text of the rule from the place on, with that many regions open, and adds its branches.
 #[cycle(reader)]
 #[tactic(auto, using(crate::proofs::Gives::gives_nothing, crate::proofs::Gives::gives_line, crate::proofs::Gives::gives_both, crate::proofs::Gives::gives_both_fails, crate::proofs::Gives::gives_left, crate::proofs::Gives::gives_right, crate::proofs::Gives::gives_no_brace, crate::proofs::Gives::gives_too_deep, crate::proofs::Gives::gives_region_ends, crate::proofs::Gives::gives_region_fails))]
-pub fn read(alloc: Global, out: &mut Vec<Branch>, lines: &[Rule], rule: &Rule, depth: usize, tokens: &[Terminal], at: usize) -> Result<usize, Fault>
+pub fn read(
+    alloc: Global,
+    out: &mut Vec<Branch>,
+    lines: &[Rule],
+    rule: &Rule,
+    depth: usize,
+    tokens: &[Terminal],
+    at: usize,
+) -> Result<usize, Fault>
     requires lines { AreLines lines.now }
     requires small { weight (seen rule.now) < 1000 }
     requires within { at ≤ length tokens.now }
@@ -88,7 +111,15 @@ pub fn read(alloc: Global, out: &mut Vec<Branch>, lines: &[Rule], rule: &Rule, d
         Rule::One(terminal) => read_one(alloc, out, *terminal, depth, tokens, at),
         Rule::Line(form) => {
             let mut parts = Vec::new(alloc);
-            match read(alloc, &mut parts, lines, line_rule(lines, *form), depth, tokens, at) {
+            match read(
+                alloc,
+                &mut parts,
+                lines,
+                line_rule(lines, *form),
+                depth,
+                tokens,
+                at,
+            ) {
                 Err(fault) => Err(fault),
                 Ok(next) => {
                     out.push(Branch::line(*form, at as u32, parts))?;

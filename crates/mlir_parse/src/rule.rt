@@ -3,6 +3,7 @@ ghost use Rattle.mlir_parse.specs.Tables as tables;
 ghost use Rattle.mlir_parse.specs.Seen.{seen};
 
 use mlir_ir::{Form, Terminal};
+use std::alloc::{AllocError, Global};
 
 /// The right side of a line of the grammar.
 #[derive(Debug, Drop)]
@@ -21,6 +22,18 @@ pub enum Rule {
     Many(Box<Rule>),
     /// A region: what stands inside its braces.
     Region(Box<Rule>),
+}
+
+impl Rule {
+    ghost use Rattle.std.specs.Prelude.{IfOk};
+    ghost use Rattle.mlir_ir.specs.Grammar.{both};
+
+    /// This rule, and the next one behind it.
+    pub fn then(self, alloc: Global, next: Rule) -> Result<Rule, AllocError>
+        ensures { IfOk result (λ rule. seen rule ≡ both (seen self) (seen next)) }
+    {
+        Ok(Rule::Both(Box::new(alloc, self)?, Box::new(alloc, next)?))
+    }
 }
 
 /// The number of the terminal.
@@ -119,15 +132,37 @@ fn line_begins(form: Form, terminal: Terminal) -> bool
         Form::Func => is_same(Terminal::Function, terminal),
         Form::Params => is_same(Terminal::Value, terminal),
         Form::Types => is_same(Terminal::TypeWord, terminal),
-        Form::Results => is_same(Terminal::TypeWord, terminal) || is_same(Terminal::LeftParen, terminal),
+        Form::Results => is_same(Terminal::TypeWord, terminal)
+            || is_same(Terminal::LeftParen, terminal),
         Form::TypeName => is_same(Terminal::TypeWord, terminal),
         Form::Body => is_same(Terminal::LeftBrace, terminal),
         Form::Ends => is_same(Terminal::Value, terminal),
         Form::Uses => is_same(Terminal::Value, terminal),
         Form::Use => is_same(Terminal::Value, terminal),
-        Form::Op => is_same(Terminal::Constant, terminal) || is_same(Terminal::Binary, terminal) || is_same(Terminal::FlaggedBinary, terminal) || is_same(Terminal::Cast, terminal) || is_same(Terminal::FlaggedCast, terminal) || is_same(Terminal::Compare, terminal) || is_same(Terminal::Select, terminal) || is_same(Terminal::Call, terminal) || is_same(Terminal::If, terminal) || is_same(Terminal::For, terminal) || is_same(Terminal::While, terminal) || is_same(Terminal::Value, terminal),
+        Form::Op => is_same(Terminal::Constant, terminal)
+            || is_same(Terminal::Binary, terminal)
+            || is_same(Terminal::FlaggedBinary, terminal)
+            || is_same(Terminal::Cast, terminal)
+            || is_same(Terminal::FlaggedCast, terminal)
+            || is_same(Terminal::Compare, terminal)
+            || is_same(Terminal::Select, terminal)
+            || is_same(Terminal::Call, terminal)
+            || is_same(Terminal::If, terminal)
+            || is_same(Terminal::For, terminal)
+            || is_same(Terminal::While, terminal)
+            || is_same(Terminal::Value, terminal),
         Form::Pack => is_same(Terminal::Value, terminal),
-        Form::Kind => is_same(Terminal::Constant, terminal) || is_same(Terminal::Binary, terminal) || is_same(Terminal::FlaggedBinary, terminal) || is_same(Terminal::Cast, terminal) || is_same(Terminal::FlaggedCast, terminal) || is_same(Terminal::Compare, terminal) || is_same(Terminal::Select, terminal) || is_same(Terminal::Call, terminal) || is_same(Terminal::If, terminal) || is_same(Terminal::For, terminal) || is_same(Terminal::While, terminal),
+        Form::Kind => is_same(Terminal::Constant, terminal)
+            || is_same(Terminal::Binary, terminal)
+            || is_same(Terminal::FlaggedBinary, terminal)
+            || is_same(Terminal::Cast, terminal)
+            || is_same(Terminal::FlaggedCast, terminal)
+            || is_same(Terminal::Compare, terminal)
+            || is_same(Terminal::Select, terminal)
+            || is_same(Terminal::Call, terminal)
+            || is_same(Terminal::If, terminal)
+            || is_same(Terminal::For, terminal)
+            || is_same(Terminal::While, terminal),
         Form::Inits => is_same(Terminal::Value, terminal),
         Form::Region => is_same(Terminal::LeftBrace, terminal),
         Form::Flags => is_same(Terminal::Overflow, terminal),

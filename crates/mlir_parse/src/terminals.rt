@@ -53,21 +53,45 @@ fn is_flagged_binary(word: &str) -> bool
 fn is_binary(word: &str) -> bool
     ensures { result ≡ terminals.is_binary word.now }
 {
-    word == "arith.andi" || word == "arith.ori" || word == "arith.xori" || word == "arith.minsi" || word == "arith.maxsi" || word == "arith.minui" || word == "arith.maxui" || word == "arith.shrui" || word == "arith.shrsi" || word == "arith.divui" || word == "arith.remui" || word == "arith.divsi" || word == "arith.remsi"
+    word == "arith.andi"
+        || word == "arith.ori"
+        || word == "arith.xori"
+        || word == "arith.minsi"
+        || word == "arith.maxsi"
+        || word == "arith.minui"
+        || word == "arith.maxui"
+        || word == "arith.shrui"
+        || word == "arith.shrsi"
+        || word == "arith.divui"
+        || word == "arith.remui"
+        || word == "arith.divsi"
+        || word == "arith.remsi"
 }
 
 /// Whether the word is a cast that takes no flags.
 fn is_cast(word: &str) -> bool
     ensures { result ≡ terminals.is_cast word.now }
 {
-    word == "arith.extsi" || word == "arith.extui" || word == "arith.index_cast" || word == "arith.index_castui"
+    word == "arith.extsi"
+        || word == "arith.extui"
+        || word == "arith.index_cast"
+        || word == "arith.index_castui"
 }
 
 /// Whether the word is a predicate of `arith.cmpi`.
 fn is_predicate(word: &str) -> bool
     ensures { result ≡ terminals.is_predicate word.now }
 {
-    word == "eq" || word == "ne" || word == "slt" || word == "sle" || word == "sgt" || word == "sge" || word == "ult" || word == "ule" || word == "ugt" || word == "uge"
+    word == "eq"
+        || word == "ne"
+        || word == "slt"
+        || word == "sle"
+        || word == "sgt"
+        || word == "sge"
+        || word == "ult"
+        || word == "ule"
+        || word == "ugt"
+        || word == "uge"
 }
 
 /// Whether the word ends a body.

@@ -69,26 +69,27 @@ read-returns-else-may_begin-clause-grows t c =
     c.read-else-may_begin.ensures.grows
 
 pub read_many-again-preserved : goal.read_many-again-preserved
-read_many-again-preserved t c =
-    (c.in-Ok.ensures.gives.1
-    , λ res h.
-    c.again.invariant.1
-    res
-    (gives_again
-    c.args.depth
-    (seen c.args.rule.now)
-    c.args.tokens.now
-    c.again.here
-    c.in-Ok.next
-    res
-    (sym c.may_begin.ensures ∙ c.again-test.true)
-    c.in-Ok.ensures.gives
-    h)
-    , λ new next h.
-    c.again.invariant.2
-    new
-    next
-    (grows_again c.args.tokens.now c.args.depth (seen c.args.rule.now) c.again.here c.in-Ok.next next _ _ new c.in-Ok.ensures.grows h))
+read_many-again-preserved t c = (
+  c.in-Ok.ensures.gives.1,
+  λ res h.
+      c.again.invariant.1
+      res
+      (gives_again
+      c.args.depth
+      (seen c.args.rule.now)
+      c.args.tokens.now
+      c.again.here
+      c.in-Ok.next
+      res
+      (sym c.may_begin.ensures ∙ c.again-test.true)
+      c.in-Ok.ensures.gives
+      h),
+  λ new next h.
+      c.again.invariant.2
+      new
+      next
+      (grows_again c.args.tokens.now c.args.depth (seen c.args.rule.now) c.again.here c.in-Ok.next next _ _ new c.in-Ok.ensures.grows h),
+)
 
 pub read_many-returns-clause-gives : goal.read_many-returns-clause-gives
 read_many-returns-clause-gives t c =
