@@ -8,3 +8,9 @@ pub mod Check
 pub mod Scope
 pub mod Outer
 pub mod Calls
+pub mod Tokens
+pub mod Grammar
+pub mod Texts
+pub mod Trees
+pub mod Terminals
+pub mod Syntaxes

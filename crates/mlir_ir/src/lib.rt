@@ -16,6 +16,9 @@ mod position;
 mod rules;
 mod scope;
 mod shape;
+mod syntax;
+mod terminal;
+mod token;
 mod typed;
 mod types;
 mod uses;
@@ -25,6 +28,9 @@ pub use module::Module;
 pub use names::is_name;
 pub use rules::{Nest, Position, Rules};
 pub use shape::{Shape, ShapeFault};
+pub use syntax::{Branch, Form, Syntax};
+pub use terminal::Terminal;
+pub use token::{Token, TokenKind};
 pub use types::{
     Arg, Body, Flags, ForParts, Func, IrType, Item, Kind, Op, Pack, Region, WhileParts,
 };

@@ -1,0 +1,6 @@
+pub mod Sum
+pub mod Product
+pub mod Align
+pub mod Place
+pub mod Limits
+pub mod Entries

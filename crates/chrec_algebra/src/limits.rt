@@ -1,0 +1,18 @@
+ghost use Rattle.std.specs.Prelude.{IsTrue, ◌↔◌};
+ghost use Rattle.chrec_algebra.specs.Limits.{IsWithin};
+ghost use Rattle.scev_tree.specs.Tree.{polynomial_of};
+
+use scev_tree::{Expr, degree, size};
+
+/// The greatest number of monomials that an analysis keeps.
+pub const MOST_MONOMIALS: u32 = 64;
+
+/// The greatest total degree that an analysis keeps.
+pub const GREATEST_DEGREE: u32 = 8;
+
+/// Whether the expression has at most 64 monomials, each of a total degree of at most 8.
+pub fn is_within(e: &Expr) -> bool
+    ensures { IsTrue result ↔ IsWithin (polynomial_of e.now.tree) }
+{
+    size(e) <= MOST_MONOMIALS && degree(e) <= GREATEST_DEGREE
+}

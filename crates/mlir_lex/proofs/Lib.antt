@@ -1,0 +1,6 @@
+pub mod Runs
+pub mod Lengths
+pub mod Fronts
+pub mod Gaps
+pub mod Pushed
+pub mod Ascii

@@ -1,0 +1,13 @@
+//! The tokens of a text of the `func`, `arith` and `scf` dialects.
+#![tactic(auto)]
+
+mod bytes;
+mod error;
+mod front;
+mod gap;
+mod lexer;
+#[cfg(test)]
+mod tests;
+
+pub use error::{LexError, LexFault};
+pub use lexer::tokens;

@@ -1,0 +1,10 @@
+pub mod Unique
+pub mod Rows
+pub mod Ends
+pub mod Places
+pub mod Scaled
+pub mod Sizes
+pub mod Comparing
+pub mod Leaves
+pub mod Values
+pub mod Residual

@@ -1,0 +1,4 @@
+pub mod Polynomial
+pub mod Tree
+pub mod Measure
+pub mod Value
