@@ -72,7 +72,7 @@ knows_more facts here e vs v lo hi known same width = record { at = at }
         ]
 
 -- values of these types, with labels from `at` on
-unfoldable AreResults : ℕ → List Value → List IrType → Type 0
+unfoldable pub AreResults : ℕ → List Value → List IrType → Type 0
 AreResults at [] [] = Unit {0}
 AreResults at [] (ty ∷ tys) = ⊥
 AreResults at (v ∷ vs) [] = ⊥
@@ -92,7 +92,7 @@ append_are at (x ∷ xs) ys (t ∷ ts) us h k =
     let e : at + length (t ∷ ts) ≡ at + 1 + length ts = omega arith in
     (h.0, h.1, append_are (at + 1) xs ys ts us h.2 (subst (λ n. AreResults n ys us) e k))
 
-results_are : (at : ℕ) (packs : List Pack) (tys : List IrType) → packs_hold packs (length tys) ≡ true → AreResults at (result_values at packs tys) tys
+pub results_are : (at : ℕ) (packs : List Pack) (tys : List IrType) → packs_hold packs (length tys) ≡ true → AreResults at (result_values at packs tys) tys
 unfolding AreResults
 results_are at [] tys h = nothing tys h
   where
@@ -158,7 +158,7 @@ kind_width facts own (If' c first other) = refl
 kind_width facts own (For parts) = refl
 kind_width facts own (While parts) = refl
 
-knows_results : (facts : Facts) (kind : Kind) (here : List Linear) (tys : List IrType) (vs rs : List Value) → length facts.items < 2 ^ 10 → length here + length tys ≤ 2 ^ 14 → Knows (with_item facts here) vs → AreResults (next_label facts here) rs tys →
+pub knows_results : (facts : Facts) (kind : Kind) (here : List Linear) (tys : List IrType) (vs rs : List Value) → length facts.items < 2 ^ 10 → length here + length tys ≤ 2 ^ 14 → Knows (with_item facts here) vs → AreResults (next_label facts here) rs tys →
     Knows (with_item facts (with_results facts kind here tys)) (vs ++ rs)
 unfolding AreResults
 knows_results facts kind here [] vs [] lo hi known h = subst (Knows (with_item facts here)) (sym (append-nil vs)) known
@@ -174,7 +174,7 @@ knows_results facts kind here (ty ∷ tys) vs (r ∷ rs) lo hi known h =
     (knows_results facts kind (with_result facts kind here ty) tys (vs ++ r ∷ []) rs lo (omega (arith, longer)) more (subst (λ n. AreResults n rs tys) next h.2))
 
 -- such an operation has no values but its results
-no_values : (label : ℕ) (kind : Kind) → holds_no_region kind ≡ true → kind_values label kind ≡ []
+pub no_values : (label : ℕ) (kind : Kind) → holds_no_region kind ≡ true → kind_values label kind ≡ []
 no_values label (Const v) h = refl
 no_values label (Bin op flags a b) h = refl
 no_values label (Cast op flags a) h = refl
@@ -185,7 +185,7 @@ no_values label (If' c first other) h = absurd (cc)
 no_values label (For parts) h = absurd (cc)
 no_values label (While parts) h = absurd (cc)
 
-knows_ops : (facts : Facts) (here : List Linear) (label : ℕ) (ops : List Op) (vs : List Value) → length facts.items < 2 ^ 10 → length here + ops_labels ops ≤ 2 ^ 14 → label ≡ next_label facts here → list_all (λ (op : Op). holds_no_region op.kind) ops ≡ true →
+pub knows_ops : (facts : Facts) (here : List Linear) (label : ℕ) (ops : List Op) (vs : List Value) → length facts.items < 2 ^ 10 → length here + ops_labels ops ≤ 2 ^ 14 → label ≡ next_label facts here → list_all (λ (op : Op). holds_no_region op.kind) ops ≡ true →
     HavePacks ops → Knows (with_item facts here) vs → Knows (with_item facts (with_ops facts here ops)) (vs ++ ops_values label ops)
 knows_ops facts here label [] vs lo hi at straight counted known = subst (Knows (with_item facts here)) (sym (append-nil vs)) known
 knows_ops facts here label (op ∷ ops) vs lo hi at straight counted known =
@@ -217,7 +217,7 @@ knows_items facts k (item ∷ items) vs at fits labels straight counted known =
     (knows_items (with_item facts here) (k + 1) items (vs ++ own) (omega (arith, at, longer)) (omega (arith, longer)) labels.1 both.1 counted.1
     (knows_ops facts [] (label_at facts.func k 0) item.ops vs (omega arith) (omega (arith, labels.0)) begin both.0 counted.0 empty))
 
-knows_args : (facts : Facts) (here : List Linear) (label : ℕ) (args : List Arg) (vs : List Value) → length facts.items < 2 ^ 10 → length here + length args ≤ 2 ^ 14 → label ≡ next_label facts here → Knows (with_item facts here) vs →
+pub knows_args : (facts : Facts) (here : List Linear) (label : ℕ) (args : List Arg) (vs : List Value) → length facts.items < 2 ^ 10 → length here + length args ≤ 2 ^ 14 → label ≡ next_label facts here → Knows (with_item facts here) vs →
     Knows (with_item facts (here ++ arg_exprs label args)) (vs ++ arg_values label args)
 knows_args facts here label [] vs lo hi at known = subst (λ l. Knows (with_item facts l) (vs ++ [])) (sym (append-nil here)) (subst (Knows (with_item facts here)) (sym (append-nil vs)) known)
 knows_args facts here label (arg ∷ args) vs lo hi at known =

@@ -8,3 +8,4 @@ pub mod Places
 pub mod Runs
 pub mod Runners
 pub mod Knowing
+pub mod Rows

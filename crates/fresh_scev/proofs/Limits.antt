@@ -31,17 +31,25 @@ kept true at fault e = refl
 kept false at fault e = absurd (cc)
 
 -- a place without a break keeps all rules
-keeps : (at : ℕ) (in_scope typed counted sized : Bool) → ((unless in_scope at Use ++ unless typed at WrongType) ++ unless counted at Count) ++ unless sized at Size ≡ [] → (counted ≡ true) × (sized ≡ true)
+pub keeps : (at : ℕ) (in_scope typed counted sized : Bool) → ((unless in_scope at Use ++ unless typed at WrongType) ++ unless counted at Count) ++ unless sized at Size ≡ [] →
+    (in_scope ≡ true) × (typed ≡ true) × (counted ≡ true) × (sized ≡ true)
 keeps at in_scope typed counted sized e =
-    let two : List Shape = unless in_scope at Use ++ unless typed at WrongType in
+    let one : List Shape = unless in_scope at Use in
+    let two : List Shape = one ++ unless typed at WrongType in
     let three : List Shape = two ++ unless counted at Count in
-    (kept counted at Count (right_none two (unless counted at Count) (left_none three (unless sized at Size) e)), kept sized at Size (right_none three (unless sized at Size) e))
+    let no_three = left_none three (unless sized at Size) e in
+    let no_two = left_none two (unless counted at Count) no_three in (
+      kept in_scope at Use (left_none one (unless typed at WrongType) no_two),
+      kept typed at WrongType (right_none one (unless typed at WrongType) no_two),
+      kept counted at Count (right_none two (unless counted at Count) no_three),
+      kept sized at Size (right_none three (unless sized at Size) e),
+    )
 
 -- an item whose operations have no break is within the limits
 op_fits : (scope : List Value) (nest : _) (at : _) (op : Op) → op_breaks scope nest at op ≡ [] → nest.item_fits ≡ true
 op_fits scope nest at op e =
     let rules = op_rules scope nest at op.packs op.results op.kind in
-    let sized : rules.sized ≡ true = (keeps at.last rules.in_scope rules.typed rules.counted rules.sized (left_none (breaks_at at.last rules) _ e)).1 in
+    let sized : rules.sized ≡ true = (keeps at.last rules.in_scope rules.typed rules.counted rules.sized (left_none (breaks_at at.last rules) _ e)).3 in
     (and_parts _ nest.item_fits (and_parts _ _ sized).0).1
 
 item_fits : (func k : ℕ) (item : Item) (scope : List Value) (at : _) → ops_breaks scope (in_item k item) at item.ops ≡ [] → ops_labels item.ops ≤ label_limit
@@ -64,7 +72,7 @@ args_fit : (declared : Bool) (n : ℕ) (wanted : List IrType) (scope : List Valu
 args_fit declared n wanted scope at [] le e = omega arith
 args_fit declared n wanted scope at (arg ∷ args) le e =
     let rules = arg_rules declared n wanted scope arg in
-    let sized : rules.sized ≡ true = (keeps at.last rules.in_scope rules.typed rules.counted rules.sized (left_none (breaks_at at.last rules) _ e)).1 in
+    let sized : rules.sized ≡ true = (keeps at.last rules.in_scope rules.typed rules.counted rules.sized (left_none (breaks_at at.last rules) _ e)).3 in
     let lt : n < list_limit = ltb-true n list_limit (and_parts _ (nat_lt n list_limit) sized).1 in
     omega (arith, args_fit declared (n + 1) (drop 1 wanted) (scope ++ arg_values at.next (arg ∷ [])) (past 1 0 at) args (omega arith) (right_none (breaks_at at.last rules) _ e))
 
@@ -75,7 +83,7 @@ body_limits f (Some body) e =
     let scope = arg_values (label_at f.index 0 0) f.args in
     let walk : List Shape = items_breaks f.index 1 scope begin body.items in
     let rules = return_rules (outer_values f body.items) f.results (length body.items) body.ret in
-    let sized : nat_le (length body.items) item_limit ≡ true = (keeps _ rules.in_scope rules.typed rules.counted rules.sized (right_none walk _ e)).1 in
+    let sized : nat_le (length body.items) item_limit ≡ true = (keeps _ rules.in_scope rules.typed rules.counted rules.sized (right_none walk _ e)).3 in
     (leb-true (length body.items) item_limit sized, items_fit f.index 1 scope begin body.items (left_none walk _ e))
 
 pub record Limits (f : Func) : Type 0 where
@@ -111,7 +119,7 @@ ops_packs scope nest at [] e = tt
 ops_packs scope nest at (op ∷ ops) e =
     let rules = op_rules scope nest at op.packs op.results op.kind in
     let first : List Shape = op_breaks scope nest at op in
-    let counted : rules.counted ≡ true = (keeps at.last rules.in_scope rules.typed rules.counted rules.sized (left_none (breaks_at at.last rules) _ (left_none first _ e))).0 in
+    let counted : rules.counted ≡ true = (keeps at.last rules.in_scope rules.typed rules.counted rules.sized (left_none (breaks_at at.last rules) _ (left_none first _ e))).2 in
     ((and_parts (packs_hold op.packs (length op.results)) _ counted).0, ops_packs (scope ++ op_results at.next op) nest (past_op op at) ops (right_none first _ e))
 
 items_packs : (func k : ℕ) (scope : List Value) (at : _) (items : List Item) → items_breaks func k scope at items ≡ [] → ItemsHavePacks items

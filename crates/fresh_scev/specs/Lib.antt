@@ -3,3 +3,4 @@ pub mod Fresh
 pub mod Straight
 pub mod Values
 pub mod Run
+pub mod Table

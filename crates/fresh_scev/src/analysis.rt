@@ -6,6 +6,7 @@ ghost use Rattle.mlir_ir.specs.Words.{bits_of};
 ghost use Rattle.fresh_scev.specs.Fresh.{expr_at, with_item};
 ghost use Rattle.fresh_scev.specs.Fresh as fresh;
 ghost use Rattle.fresh_scev.specs.Run.{IsRun};
+ghost use Rattle.fresh_scev.specs.Table.{IsTable};
 ghost use Rattle.fresh_scev.specs.Values.{value};
 ghost use Rattle.fresh_scev.specs.Straight.{HaveLabels, is_straight_line};
 ghost use Rattle.mlir_ir.specs.Check.{IsWellFormed};
@@ -168,6 +169,7 @@ pub fn analyse(alloc: Global, f: &Func) -> Result<Facts, AllocError>
     requires well_formed { IsWellFormed f.now }
     requires straight_line { IsTrue (is_straight_line f.now) }
     ensures facts { IfOk result (λ facts. facts ≡ fresh.facts_of f.now) }
+    ensures table { IfOk result (λ facts. IsTable (expr_at facts) f.now) }
     ensures known { IfOk result (λ facts. (label : ℕ) → option_map (λ e. e.w) (expr_at facts label) ≡ option_map bits_of (type_at (func_values f.now) label)) }
     ensures values { IfOk result (λ facts. (env : ℕ → ℕ) → IsRun env f.now → (label : ℕ) → IfSome (expr_at facts label) (λ e. value env e ≡ env label % 2 ^ e.w)) }
 {

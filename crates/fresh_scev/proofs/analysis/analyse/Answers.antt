@@ -5,11 +5,19 @@ use Rattle.mlir_ir.specs.Words.{bits_of}
 use Rattle.fresh_scev.specs.declared.facts.Facts.{Facts}
 use Rattle.fresh_scev.specs.Fresh.{expr_at, facts_of}
 use Rattle.fresh_scev.specs.Linear.{Linear}
+use Rattle.fresh_scev.specs.Table.{IsTable}
 use Rattle.fresh_scev.specs.Values.{value}
 use Rattle.fresh_scev.proofs.Knowing.{knows}
+use Rattle.fresh_scev.proofs.Rows.{table}
 use Rattle.fresh_scev.proofs.Runners.{runs}
 use Rattle.fresh_scev.proofs.analysis.analyse.Goals as goal
 use Rattle.fresh_scev.proofs.analysis.analyse.Goals.{in-Some+in_ok-push_items, in_default}
+
+pub returns-clause-table : goal.returns-clause-table
+returns-clause-table c =
+    let same : c.match-f.facts ≡ facts_of c.args.f.now = elim c.match-f.branch [ in-Some+in_ok-push_items w ↦ search rules | in_default w ↦ search rules ] in
+    let P : Facts → Type 0 = λ facts. IsTable (expr_at facts) c.args.f.now in
+    subst P (sym same) (table c.args.f.now c.requires.well_formed c.requires.straight_line)
 
 pub returns-clause-known : goal.returns-clause-known
 returns-clause-known c label =
