@@ -1,4 +1,0 @@
-pub mod Tables
-pub mod Runs
-pub mod Seen
-pub mod Refused
