@@ -81,10 +81,10 @@ gap_shorter false [] = omega arith
 gap_shorter true (b ∷ bs) = omega (arith, gap_shorter (not (b == 10)) bs)
 gap_shorter false (b ∷ bs) =
     elim (cases_Bool (is_blank b)) [
-      inl blank ↦ rw blank (omega (arith, gap_shorter false bs))
-    | inr other ↦ elim (cases_Bool (b == 47 && is_next 47 bs)) [
-        inl slashes ↦ rw (other, slashes) (omega (arith, gap_shorter true bs))
-      | inr token ↦ rw (other, token) (omega arith)
+      | inl blank ↦ rw blank (omega (arith, gap_shorter false bs))
+      | inr other ↦ elim (cases_Bool (b == 47 && is_next 47 bs)) [
+        | inl slashes ↦ rw (other, slashes) (omega (arith, gap_shorter true bs))
+        | inr token ↦ rw (other, token) (omega arith)
       ]
     ]
 

@@ -62,7 +62,11 @@ impl Branch {
     pub fn leaf(alloc: Global, token: u32) -> Branch
         ensures { (rest : Forest) → put result rest ≡ node Leaf token none rest }
     {
-        Branch { form: Form::Leaf, token, parts: Vec::new(alloc) }
+        Branch {
+            form: Form::Leaf,
+            token,
+            parts: Vec::new(alloc),
+        }
     }
 
     /// The branch of a line.
