@@ -8,6 +8,7 @@ use Rattle.mlir_parse.proofs.First.{firsts}
 use Rattle.mlir_ir.specs.declared.terminal.Terminal.{Terminal}
 use Rattle.mlir_ir.specs.declared.terminal.Terminal.TheVariants.{RightBrace}
 use Rattle.mlir_ir.specs.declared.syntax.Form.{Form}
+use Rattle.mlir_ir.specs.declared.syntax.Form.TheVariants.{Whole}
 
 abbrev pub Good : Pattern → (Terminal → Bool) → Type 0
 Good nothing after = Unit {0}
@@ -76,6 +77,10 @@ lines_decide f = decided (body f) (follow f) (every_form (λ g. decides (body g)
 abbrev pub Fits : List Pattern → Type 0
 Fits [] = Unit {0}
 Fits (r ∷ ss) = Good r (firsts ss) × Fits ss
+
+-- nothing stands behind a whole text
+pub fits_whole : Fits (line Whole ∷ [])
+fits_whole = ((λ c h. cc), tt)
 
 pub fits_line : (f : Form) (ss : List Pattern) → Fits (line f ∷ ss) → Fits (body f ∷ ss)
 fits_line f ss h = (weaker (body f) (follow f) (firsts ss) h.0 (lines_decide f), h.1)

@@ -12,12 +12,13 @@ use Rattle.mlir_ir.specs.declared.syntax.Form.TheVariants.{Whole}
 use Rattle.mlir_parse.proofs.Unique.{derives_accepts}
 use Rattle.mlir_parse.proofs.Bools.{passes}
 
+-- tokens with a tree are a text
+pub tree_text : (ts : List Terminal) (xs : Forest) → IsTreeOf ts xs → IsText ts
+tree_text ts xs d = derives_accepts d [] (subst (λ (z : List Terminal). Accepts [] z) (sym (drop-length ts)) ends)
+
 -- tokens with a tree begin a text
 pub begins_of_tree : (ts : List Terminal) (xs : Forest) → IsTreeOf ts xs → BeginsText ts
-begins_of_tree ts xs d =
-    let done : Accepts [] (drop (length ts) ts) = subst (λ (z : List Terminal). Accepts [] z) (sym (drop-length ts)) ends in
-    let text : IsText ts = derives_accepts d [] done in
-    ([], subst IsText (sym (append-nil ts)) text)
+begins_of_tree ts xs d = ([], subst IsText (sym (append-nil ts)) (tree_text ts xs d))
 
 take_drop : (k : ℕ) (ts : List Terminal) → take k ts ++ drop k ts ≡ ts
 take_drop zero ts = refl
@@ -25,7 +26,7 @@ take_drop (suc k) [] = refl
 take_drop (suc k) (c ∷ ts) = ap (λ z. c ∷ z) (take_drop k ts)
 
 -- the front of a front begins the same text
-take_begins : (ts : List Terminal) (k : ℕ) → BeginsText ts → BeginsText (take k ts)
+pub take_begins : (ts : List Terminal) (k : ℕ) → BeginsText ts → BeginsText (take k ts)
 take_begins ts k (more, text) =
     (drop k ts ++ more, subst IsText (ap (λ z. z ++ more) (sym (take_drop k ts)) ∙ append_assoc (take k ts) (drop k ts) more) text)
 
@@ -55,21 +56,25 @@ regions_up : (x : List Terminal) → regions x ≡ 12 → regions (x ++ LeftBrac
 regions_up [] full = absurd (omega (arith, full))
 regions_up (c ∷ x) full =
     elim (cases_Bool (is_module c)) [
-      inl own ↦ let before : opened 0 x - 1 ≡ 12 = rw own at full in
-      let after : opened 0 (x ++ LeftBrace ∷ []) ≡ opened 0 x + 1 = opened-append 0 x (LeftBrace ∷ []) in
-      rw own (omega (arith, before, after))
-    | inr other ↦ let before : opened 0 (c ∷ x) ≡ 12 = rw other at full in
-      let after : opened 0 (c ∷ x ++ LeftBrace ∷ []) ≡ opened 0 (c ∷ x) + 1 = opened-append (step 0 c) x (LeftBrace ∷ []) in
-      rw other (omega (arith, before, after))
+      | inl own ↦ let before : opened 0 x - 1 ≡ 12 = rw own at full in
+          let after : opened 0 (x ++ LeftBrace ∷ []) ≡ opened 0 x + 1 = opened-append 0 x (LeftBrace ∷ []) in
+          rw own (omega (arith, before, after))
+      | inr other ↦ let before : opened 0 (c ∷ x) ≡ 12 = rw other at full in
+          let after : opened 0 (c ∷ x ++ LeftBrace ∷ []) ≡ opened 0 (c ∷ x) + 1 = opened-append (step 0 c) x (LeftBrace ∷ []) in
+          rw other (omega (arith, before, after))
     ]
+
+-- behind the brace thirteen regions are open
+pub regions_behind : (ts : List Terminal) (k : ℕ) → IsTooDeep ts k → regions (take (k + 1) ts) ≡ 13
+regions_behind ts k deep =
+    let up : regions (take k ts ++ LeftBrace ∷ []) ≡ 13 = regions_up (take k ts) deep.full in
+    rw (add-one k) (ap regions (take_next ts k LeftBrace deep.brace) ∙ up)
 
 -- no region is too deep where all are shallow
 pub deep_not_shallow : (ts : List Terminal) (k : ℕ) → IsTooDeep ts k → IsShallow ts → ⊥
 deep_not_shallow ts k deep shallow =
-    let up : regions (take k ts ++ LeftBrace ∷ []) ≡ 13 = regions_up (take k ts) deep.full in
-    let low : regions (take (suc k) ts) ≤ 12 = shallow (suc k) in
-    let same : regions (take (suc k) ts) ≡ 13 = ap regions (take_next ts k LeftBrace deep.brace) ∙ up in
-    omega (arith, low, same)
+    let low : regions (take (k + 1) ts) ≤ 12 = shallow (k + 1) in
+    omega (arith, low, regions_behind ts k deep)
 
 step_flat : (n : ℕ) (t : Terminal) → opens t ≡ false → step n t ≤ n
 step_flat n t flat =
@@ -81,12 +86,12 @@ regions_flat [] t flat =
     elim (cases_Bool (is_module t)) [ inl own ↦ rw own (omega arith) | inr other ↦ rw other low ]
 regions_flat (c ∷ x) t flat =
     elim (cases_Bool (is_module c)) [
-      inl own ↦ let after : opened 0 (x ++ t ∷ []) ≡ step (opened 0 x) t = opened-append 0 x (t ∷ []) in
-      let low : step (opened 0 x) t ≤ opened 0 x = step_flat (opened 0 x) t flat in
-      rw own (omega (arith, after, low))
-    | inr other ↦ let after : opened (step 0 c) (x ++ t ∷ []) ≡ step (opened (step 0 c) x) t = opened-append (step 0 c) x (t ∷ []) in
-      let low : step (opened (step 0 c) x) t ≤ opened (step 0 c) x = step_flat (opened (step 0 c) x) t flat in
-      rw other (omega (arith, after, low))
+      | inl own ↦ let after : opened 0 (x ++ t ∷ []) ≡ step (opened 0 x) t = opened-append 0 x (t ∷ []) in
+          let low : step (opened 0 x) t ≤ opened 0 x = step_flat (opened 0 x) t flat in
+          rw own (omega (arith, after, low))
+      | inr other ↦ let after : opened (step 0 c) (x ++ t ∷ []) ≡ step (opened (step 0 c) x) t = opened-append (step 0 c) x (t ∷ []) in
+          let low : step (opened (step 0 c) x) t ≤ opened (step 0 c) x = step_flat (opened (step 0 c) x) t flat in
+          rw other (omega (arith, after, low))
     ]
 
 take_front : (x y : List Terminal) (k : ℕ) → k ≤ length x → take k (x ++ y) ≡ take k x
@@ -98,14 +103,14 @@ take_front (c ∷ x) y (suc k) h = ap (λ z. c ∷ z) (take_front x y k (omega a
 pub shallow_more : (x : List Terminal) (t : Terminal) → opens t ≡ false → IsShallow x → IsShallow (x ++ t ∷ [])
 shallow_more x t flat shallow k =
     elim (cases_lt (length x) k) [
-      inl beyond ↦ let whole : take k (x ++ t ∷ []) ≡ x ++ t ∷ [] = take_all k (x ++ t ∷ []) (omega (arith, length-append x (t ∷ []))) in
-      let low : regions (x ++ t ∷ []) ≤ regions x = regions_flat x t flat in
-      let all : take (length x) x ≡ x = take_all (length x) x (omega arith) in
-      let most : regions (take (length x) x) ≤ 12 = shallow (length x) in
-      omega (arith, ap regions whole, ap regions all, low, most)
-    | inr within ↦ let front : take k (x ++ t ∷ []) ≡ take k x = take_front x (t ∷ []) k within in
-      let most : regions (take k x) ≤ 12 = shallow k in
-      omega (arith, ap regions front, most)
+      | inl beyond ↦ let whole : take k (x ++ t ∷ []) ≡ x ++ t ∷ [] = take_all k (x ++ t ∷ []) (omega (arith, length-append x (t ∷ []))) in
+          let low : regions (x ++ t ∷ []) ≤ regions x = regions_flat x t flat in
+          let all : take (length x) x ≡ x = take_all (length x) x (omega arith) in
+          let most : regions (take (length x) x) ≤ 12 = shallow (length x) in
+          omega (arith, ap regions whole, ap regions all, low, most)
+      | inr within ↦ let front : take k (x ++ t ∷ []) ≡ take k x = take_front x (t ∷ []) k within in
+          let most : regions (take k x) ≤ 12 = shallow k in
+          omega (arith, ap regions front, most)
     ]
 
 -- whether the tokens begin a text is told by where they are faulty
@@ -138,7 +143,7 @@ get_at (c ∷ ts) (suc at) d within = get_at ts at d (omega arith)
 
 -- a word that names nothing: whether it is not here is whether a name could stand
 pub not_here_by : (ts : List Terminal) (at : ℕ) (d : Terminal) (could : Bool) → IsSyntaxFault ts at → at < length ts → is_unnamed (get_or ts at d) ≡ true
-  → MatchBool could (NameCouldStand (take at ts)) (NameCouldStand (take at ts) → ⊥) → MatchBool could (IsNotHere ts at) (IsOtherFault ts at)
+    → MatchBool could (NameCouldStand (take at ts)) (NameCouldStand (take at ts) → ⊥) → MatchBool could (IsNotHere ts at) (IsOtherFault ts at)
 not_here_by ts at d true fault within unnamed could =
     record { fault = fault; word = get_or ts at d; here = get_at ts at d within; unnamed = unnamed; could = could }
 not_here_by ts at d false fault within unnamed could = record { fault = fault; other = λ h. could h.could }
@@ -149,9 +154,9 @@ other_named ts at w fault within here named =
     record {
       fault = fault;
       other = λ h.
-        let both : Some w ≡ Some h.word = sym (get_here ts at w within here) ∙ h.here in
-        let same : w ≡ h.word = cc in
-        both_ways (is_unnamed h.word) (ap is_unnamed (sym same) ∙ named) h.unnamed;
+          let both : Some w ≡ Some h.word = sym (get_here ts at w within here) ∙ h.here in
+          let same : w ≡ h.word = cc in
+          both_ways (is_unnamed h.word) (ap is_unnamed (sym same) ∙ named) h.unnamed;
     }
 
 -- the end is no word
@@ -164,16 +169,16 @@ name_flat i t here = not-true (opens t) (passes (λ z. not (opens z)) names refl
 
 -- one more name that could not stand
 pub none_more : (ts : List Terminal) (n : ℕ) (d : Terminal) → n < 17
-  → ((i : ℕ) → i < n → (t : Terminal) → slice_get names i ≡ Some t → BeginsText (ts ++ t ∷ []) → ⊥)
-  → (BeginsText (ts ++ get_or names n d ∷ []) → ⊥)
-  → (i : ℕ) → i < n + 1 → (t : Terminal) → slice_get names i ≡ Some t → BeginsText (ts ++ t ∷ []) → ⊥
+    → ((i : ℕ) → i < n → (t : Terminal) → slice_get names i ≡ Some t → BeginsText (ts ++ t ∷ []) → ⊥)
+    → (BeginsText (ts ++ get_or names n d ∷ []) → ⊥)
+    → (i : ℕ) → i < n + 1 → (t : Terminal) → slice_get names i ≡ Some t → BeginsText (ts ++ t ∷ []) → ⊥
 none_more ts n d inside below last i less t is begun =
     elim (cases_lt i n) [
-      inl earlier ↦ below i earlier t is begun
-    | inr later ↦ let same : i ≡ n = omega arith in
-      let both : Some t ≡ Some (get_or names n d) = sym is ∙ ap (slice_get names) same ∙ get_at names n d inside in
-      let one_name : t ≡ get_or names n d = cc in
-      last (subst (λ z. BeginsText (ts ++ z ∷ [])) one_name begun)
+      | inl earlier ↦ below i earlier t is begun
+      | inr later ↦ let same : i ≡ n = omega arith in
+          let both : Some t ≡ Some (get_or names n d) = sym is ∙ ap (slice_get names) same ∙ get_at names n d inside in
+          let one_name : t ≡ get_or names n d = cc in
+          last (subst (λ z. BeginsText (ts ++ z ∷ [])) one_name begun)
     ]
 
 -- no name could stand

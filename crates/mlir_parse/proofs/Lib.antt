@@ -16,4 +16,7 @@ pub mod Table
 pub mod Roots
 pub mod Hopes
 pub mod Parsed
-pub mod Laws
+pub mod Trees
+pub mod Lexed
+pub mod Faults
+pub mod OneAnswer

@@ -21,11 +21,11 @@ pub early_end : (ts : List Terminal) (r : Pattern) (next : ℕ) → r ≡ body W
 early_end ts r next is gives less = not_all ts next less (subst (λ z. Runs 0 z ts (Done (drop next ts))) is gives.2)
 
 pub whole_tree : (ts : List Terminal) (r : Pattern) (next : ℕ) (parts : List Branch) (root : Branch)
-  → r ≡ body Whole → Gives 0 r ts 0 (Ok next) → length ts ≤ next → Grows ts 0 r 0 [] parts next
-  → ((rest : Forest) → put root rest ≡ node Whole 0 (forest parts) rest) → IsTreeOf ts (put root none)
+    → r ≡ body Whole → Gives 0 r ts 0 (Ok next) → length ts ≤ next → Grows ts 0 r 0 [] parts next
+    → ((rest : Forest) → put root rest ≡ node Whole 0 (forest parts) rest) → IsTreeOf ts (put root none)
 whole_tree ts r next parts root is gives far grows shown =
     let last : next ≡ length ts = omega (arith, gives.1, far) in
     let inside : Derives ts 0 (body Whole) 0 grows.trees (length ts) =
-      subst (λ z. Derives ts 0 (body Whole) 0 grows.trees z) last (subst (λ z. Derives ts 0 z 0 grows.trees next) is grows.derived) in
+    subst (λ z. Derives ts 0 (body Whole) 0 grows.trees z) last (subst (λ z. Derives ts 0 z 0 grows.trees next) is grows.derived) in
     let parts_are : forest parts ≡ grows.trees = grows.grown in
     subst (λ z. IsTreeOf ts z) (sym (shown none ∙ ap (λ z. node Whole 0 z none) parts_are)) (derive_line inside)

@@ -22,7 +22,7 @@ of_run_either : {n : ℕ} {a b : Pattern} {ts : List Terminal} {o : Outcome} →
 of_run_either (run_left h d) = inl (h, d)
 of_run_either (run_right h d) = inr (h, d)
 
-of_run_line : {n : ℕ} {f : Form} {ts : List Terminal} {o : Outcome} → Runs n (line f) ts o → Runs n (body f) ts o
+pub of_run_line : {n : ℕ} {f : Form} {ts : List Terminal} {o : Outcome} → Runs n (line f) ts o → Runs n (body f) ts o
 of_run_line (run_line d) = d
 
 of_run_nothing : {n : ℕ} {ts : List Terminal} {o : Outcome} → Runs n nothing ts o → o ≡ Done ts

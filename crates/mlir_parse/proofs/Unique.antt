@@ -7,17 +7,17 @@ use Rattle.mlir_ir.specs.Texts.{Accepts, ends, no_more, token, by_line, in_turn,
 use Rattle.mlir_ir.specs.Trees.{Forest, none, node, join, Derives, IsTreeOf, derive_nothing, derive_one, derive_line, derive_both, derive_left, derive_right, derive_again, derive_enough, derive_region}
 use Rattle.mlir_parse.proofs.Bools.{and_left}
 use Rattle.mlir_parse.proofs.First.{firsts, empties, first_of, empties_of}
-use Rattle.mlir_parse.proofs.Fits.{Fits, fits_line, fits_deep}
+use Rattle.mlir_parse.proofs.Fits.{Fits, fits_whole, fits_line, fits_deep}
 use Rattle.mlir_parse.proofs.Back.{of_both, of_one}
 use Rattle.mlir_ir.specs.declared.terminal.Terminal.{Terminal}
 use Rattle.mlir_ir.specs.declared.terminal.Terminal.TheVariants.{LeftBrace, RightBrace}
 use Rattle.mlir_ir.specs.declared.syntax.Form.{Form}
 use Rattle.mlir_ir.specs.declared.syntax.Form.TheVariants.{Whole}
 
-here : (ts : List Terminal) (at : ℕ) (c : Terminal) → slice_get ts at ≡ Some c → drop at ts ≡ c ∷ drop (suc at) ts
-here [] at c e = cc
-here (b ∷ ts) zero c e = let same_token : b ≡ c = cc in ap (λ x. x ∷ ts) same_token
-here (b ∷ ts) (suc at) c e = here ts at c e
+pub token_here : (ts : List Terminal) (at : ℕ) (c : Terminal) → slice_get ts at ≡ Some c → drop at ts ≡ c ∷ drop (suc at) ts
+token_here [] at c e = cc
+token_here (b ∷ ts) zero c e = let same_token : b ≡ c = cc in ap (λ x. x ∷ ts) same_token
+token_here (b ∷ ts) (suc at) c e = token_here ts at c e
 
 -- a tree is a derivation
 pub derives_accepts : {ts : List Terminal} {depth : ℕ} {r : Pattern} {at next : ℕ} {xs : Forest} → Derives ts depth r at xs next → (ss : List Pattern) → Accepts ss (drop next ts) → Accepts (r ∷ ss) (drop at ts)
@@ -25,7 +25,7 @@ derives_accepts derive_nothing ss a = no_more a
 derives_accepts {ts} (derive_one {at = at} {c = c} h e) ss a =
     let P : List Terminal → Type 0 = λ z. Accepts (one c ∷ ss) z in
     let Q : ℕ → Type 0 = λ z. Accepts ss (drop z ts) in
-    subst P (sym (here ts at c h)) (token (subst Q (e ∙ add-one at) a))
+    subst P (sym (token_here ts at c h)) (token (subst Q (e ∙ add-one at) a))
 derives_accepts (derive_line d) ss a = by_line (derives_accepts d ss a)
 derives_accepts (derive_both {b = b} d k e) ss a = in_turn (derives_accepts d (b ∷ ss) (derives_accepts k ss a))
 derives_accepts (derive_left d) ss a = left (derives_accepts d ss a)
@@ -40,7 +40,7 @@ derives_accepts (derive_region shallow d) ss a = in_region (of_both_twice (deriv
 clash : (p q : Bool) → (p ≡ true → q ≡ false) → p ≡ true → q ≡ true → ⊥
 clash p q f h k = let m : q ≡ false = f h in cc
 
-begins_with : (p e s : Bool) → e ≡ false → (p || (e && s)) ≡ true → p ≡ true
+pub begins_with : (p e s : Bool) → e ≡ false → (p || (e && s)) ≡ true → p ≡ true
 begins_with true e s h k = refl
 begins_with false true s h k = cc
 begins_with false false s h k = k
@@ -87,9 +87,6 @@ unique derive_enough (derive_again {a = a} d k e) ss fits x y =
 unique derive_enough derive_enough ss fits x y = record { place = refl; trees = refl }
 unique (derive_region {a = a} shallow d) (derive_region also k) ss fits x y =
     let deeper = fits_deep a ss fits in unique d k ss ((tt, (deeper.0, tt)), deeper.1.1) x y
-
-fits_whole : Fits (line Whole ∷ [])
-fits_whole = ((λ c h. cc), tt)
 
 -- the law: the tokens have at most one tree
 pub one_tree : (ts : List Terminal) (xs ys : Forest) → IsTreeOf ts xs → IsTreeOf ts ys → xs ≡ ys

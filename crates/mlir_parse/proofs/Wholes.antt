@@ -5,15 +5,12 @@ use Rattle.mlir_ir.specs.Grammar.{Pattern, line, body}
 use Rattle.mlir_ir.specs.Texts.{Accepts, ends, IsText, BeginsText, IsSyntaxFault, IsTooDeep, IsShallow, regions}
 use Rattle.mlir_parse.specs.Runs.{Outcome, Done, Stop, Deep, Runs, run_line}
 use Rattle.mlir_parse.proofs.Only.{only, next}
-use Rattle.mlir_parse.proofs.Fits.{Fits}
+use Rattle.mlir_parse.proofs.Fits.{fits_whole}
 use Rattle.mlir_parse.proofs.Viable.{viable}
 use Rattle.mlir_parse.proofs.Tops.{top}
 use Rattle.mlir_ir.specs.declared.terminal.Terminal.TheVariants.{LeftBrace}
 use Rattle.mlir_ir.specs.declared.terminal.Terminal.{Terminal}
 use Rattle.mlir_ir.specs.declared.syntax.Form.TheVariants.{Whole}
-
-fits_whole : Fits (line Whole ∷ [])
-fits_whole = ((λ c h. cc), tt)
 
 -- what was read is the front up to the place
 front_is : (ts x : List Terminal) (k : ℕ) → k ≤ length ts → ts ≡ x ++ drop k ts → x ≡ take k ts

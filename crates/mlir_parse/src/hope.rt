@@ -67,7 +67,11 @@ fn begins_text(alloc: Global, lines: &[Rule], tokens: &[Terminal]) -> Result<boo
 }
 
 /// The tokens with one more behind them.
-fn with_next(alloc: Global, tokens: &[Terminal], next: Terminal) -> Result<Vec<Terminal>, AllocError>
+fn with_next(
+    alloc: Global,
+    tokens: &[Terminal],
+    next: Terminal,
+) -> Result<Vec<Terminal>, AllocError>
     ensures { IfOk result (λ more. more.items ≡ tokens.now ++ next ∷ []) }
 {
     let mut more = Vec::from_slice(alloc, tokens)?;
@@ -95,7 +99,12 @@ fn name_could_stand(alloc: Global, lines: &[Rule], tokens: &[Terminal]) -> Resul
 /// Whether the faulty token is a word that names no operation and no type, where one of these
 /// could stand.
 #[tactic(auto, using(crate::proofs::Hopes::other_named, crate::proofs::Hopes::other_end))]
-pub fn is_not_here(alloc: Global, lines: &[Rule], tokens: &[Terminal], at: usize) -> Result<bool, AllocError>
+pub fn is_not_here(
+    alloc: Global,
+    lines: &[Rule],
+    tokens: &[Terminal],
+    at: usize,
+) -> Result<bool, AllocError>
     requires lines { AreLines lines.now }
     requires few { length tokens.now < 2 ^ 32 }
     requires fault { texts.IsSyntaxFault tokens.now at }

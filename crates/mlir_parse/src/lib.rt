@@ -3,6 +3,7 @@
 
 mod fault;
 mod hope;
+mod laws;
 mod lines;
 mod parser;
 mod read;
@@ -12,4 +13,5 @@ mod terminals;
 mod tests;
 mod tree;
 
+pub use laws::{one_answer, one_syntax};
 pub use parser::{ParseFault, parse};

@@ -36,6 +36,7 @@ pub enum ParseFault {
 
 impl From<AllocError> for ParseFault {
     ghost use Rattle.mlir_parse.specs.declared.parser.ParseFault.TheVariants.{NoMemory};
+
     ghost from_gives = { λ _ e. e ≡ NoMemory };
 
     fn from(_e: AllocError) -> ParseFault {
@@ -80,7 +81,11 @@ pub fn parse(alloc: Global, text: &str) -> Result<Syntax, ParseFault>
     let terminals = terminals_of(alloc, found.as_slice())?;
     let table = lines(alloc)?;
     match tree_of(alloc, table.as_slice(), terminals.as_slice()) {
-        Ok(root) => Ok(Syntax { tokens: found, length, root }),
+        Ok(root) => Ok(Syntax {
+            tokens: found,
+            length,
+            root,
+        }),
         Err(Fault::NoMemory) => Err(ParseFault::NoMemory),
         Err(Fault::TooDeep(at)) => Err(ParseFault::TooDeep(place(found.as_slice(), length, at))),
         Err(Fault::Syntax(at)) => {
