@@ -1,0 +1,90 @@
+-- The branches that each step of the reader adds.
+use Rattle.std.proofs.Common.{suc, zero, ◌≡◌, ℕ, ◌+◌, ◌≤◌, ◌<◌, true, List, [], ◌∷◌, ◌++◌, refl, ap, ◌∙◌, sym, subst, drop, length, Option, Some, None, slice_get, arith, add-one}
+use Rattle.mlir_ir.specs.Grammar.{Pattern, nothing, one, line, both, either, many, region, body}
+use Rattle.mlir_ir.specs.Trees.{Forest, none, node, join, put, forest, Derives, derive_nothing, derive_one, derive_line, derive_both, derive_left, derive_right, derive_again, derive_enough, derive_region}
+use Rattle.mlir_ir.specs.declared.terminal.Terminal.{Terminal}
+use Rattle.mlir_ir.specs.declared.terminal.Terminal.TheVariants.{LeftBrace, RightBrace}
+use Rattle.mlir_ir.specs.declared.syntax.Form.{Form}
+use Rattle.mlir_ir.specs.declared.syntax.Form.TheVariants.{Leaf}
+use Rattle.mlir_ir.specs.declared.syntax.Branch.{Branch, Branch'}
+use Rattle.mlir_parse.specs.Runs.{is_next}
+use Rattle.mlir_parse.specs.Seen.{Grows}
+use Rattle.mlir_parse.proofs.Bools.{same_is}
+
+pub join-none : (xs : Forest) → join xs none ≡ xs
+join-none none = refl
+join-none (node f at parts xs) = ap (node f at parts) (join-none xs)
+
+pub join_assoc : (xs ys zs : Forest) → join (join xs ys) zs ≡ join xs (join ys zs)
+join_assoc none ys zs = refl
+join_assoc (node f at parts xs) ys zs = ap (node f at parts) (join_assoc xs ys zs)
+
+put_join : (b : Branch) (xs ys : Forest) → put b (join xs ys) ≡ join (put b xs) ys
+put_join (Branch' f at shape row) xs ys = refl
+
+forest-append : (bs cs : List Branch) → forest (bs ++ cs) ≡ join (forest bs) (forest cs)
+forest-append [] cs = refl
+forest-append (b ∷ bs) cs = ap (put b) (forest-append bs cs) ∙ put_join b (forest bs) (forest cs)
+
+-- one branch more
+pub forest_pushed : (old new : List Branch) (b : Branch) (x : Forest) → new ≡ old ++ b ∷ [] → put b none ≡ x → forest new ≡ join (forest old) x
+forest_pushed old new b x e p = ap forest e ∙ forest-append old (b ∷ []) ∙ ap (join (forest old)) p
+
+token_at : (c : Terminal) (ts : List Terminal) (at : ℕ) → is_next c (drop at ts) ≡ true → slice_get ts at ≡ Some c
+token_at c [] zero e = cc
+token_at c [] (suc at) e = cc
+token_at c (b ∷ ts) zero e = ap Some (same_is c b e)
+token_at c (b ∷ ts) (suc at) e = token_at c ts at e
+
+module _ (ts : List Terminal) where
+  pub grows_nothing : (n at : ℕ) (old : List Branch) → Grows ts n nothing at old old at
+  grows_nothing n at old = record { trees = none; grown = sym (join-none (forest old)); derived = derive_nothing }
+
+  pub grows_one : (n : ℕ) (c : Terminal) (at : ℕ) (old new : List Branch) (b : Branch)
+      → new ≡ old ++ b ∷ [] → ((rest : Forest) → put b rest ≡ node Leaf at none rest) → is_next c (drop at ts) ≡ true → Grows ts n (one c) at old new (at + 1)
+  grows_one n c at old new b e p h =
+      record { trees = node Leaf at none none; grown = forest_pushed old new b (node Leaf at none none) e (p none); derived = derive_one (token_at c ts at h) refl }
+
+  pub grows_line : (n : ℕ) (f : Form) (r : Pattern) (at next : ℕ) (old new parts : List Branch) (b : Branch)
+      → new ≡ old ++ b ∷ [] → ((rest : Forest) → put b rest ≡ node f at (forest parts) rest) → r ≡ body f → Grows ts n r at [] parts next → Grows ts n (line f) at old new next
+  grows_line n f r at next old new parts b e p k g =
+      let P : Pattern → Type 0 = λ x. Derives ts n x at g.trees next in
+      record {
+        trees = node f at g.trees none;
+        grown = forest_pushed old new b (node f at g.trees none) e (p none ∙ ap (λ x. node f at x none) g.grown);
+        derived = derive_line (subst P k g.derived);
+      }
+
+  pub grows_both : (n : ℕ) (a b : Pattern) (at mid next : ℕ) (old middle new : List Branch) → Grows ts n a at old middle mid → Grows ts n b mid middle new next → Grows ts n (both a b) at old new next
+  grows_both n a b at mid next old middle new g k =
+      record {
+        trees = join g.trees k.trees;
+        grown = k.grown ∙ ap (λ x. join x k.trees) g.grown ∙ join_assoc (forest old) g.trees k.trees;
+        derived = derive_both g.derived k.derived refl;
+      }
+
+  pub grows_left : (n : ℕ) (a b : Pattern) (at next : ℕ) (old new : List Branch) → Grows ts n a at old new next → Grows ts n (either a b) at old new next
+  grows_left n a b at next old new g = record { trees = g.trees; grown = g.grown; derived = derive_left g.derived }
+
+  pub grows_right : (n : ℕ) (a b : Pattern) (at next : ℕ) (old new : List Branch) → Grows ts n b at old new next → Grows ts n (either a b) at old new next
+  grows_right n a b at next old new g = record { trees = g.trees; grown = g.grown; derived = derive_right g.derived }
+
+  pub grows_region : (n : ℕ) (a : Pattern) (at mid next : ℕ) (old opened middle new : List Branch) (b : Branch)
+      → n < 12 → opened ≡ old ++ b ∷ [] → ((rest : Forest) → put b rest ≡ node Leaf at none rest) → is_next LeftBrace (drop at ts) ≡ true
+      → Grows ts (n + 1) a (at + 1) opened middle mid → Grows ts (n + 1) (one RightBrace) mid middle new next → Grows ts n (region a) at old new next
+  grows_region n a at mid next old opened middle new b shallow e p h g k =
+      let first = grows_one (n + 1) LeftBrace at old opened b e p h in
+      let rest = grows_both (n + 1) a (one RightBrace) (at + 1) mid next opened middle new g k in
+      let all = grows_both (n + 1) (one LeftBrace) (both a (one RightBrace)) at (at + 1) next old opened new first rest in
+      record { trees = all.trees; grown = all.grown; derived = derive_region shallow all.derived }
+
+  pub grows_enough : (n : ℕ) (a : Pattern) (at : ℕ) (old : List Branch) → Grows ts n (many a) at old old at
+  grows_enough n a at old = record { trees = none; grown = sym (join-none (forest old)); derived = derive_enough }
+
+  pub grows_again : (n : ℕ) (a : Pattern) (at mid next : ℕ) (old middle new : List Branch) → Grows ts n a at old middle mid → Grows ts n (many a) mid middle new next → Grows ts n (many a) at old new next
+  grows_again n a at mid next old middle new g k =
+      record {
+        trees = join g.trees k.trees;
+        grown = k.grown ∙ ap (λ x. join x k.trees) g.grown ∙ join_assoc (forest old) g.trees k.trees;
+        derived = derive_again g.derived k.derived refl;
+      }

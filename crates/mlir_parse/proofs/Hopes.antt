@@ -1,0 +1,187 @@
+-- Whether tokens begin some text, and which names could stand behind them.
+use Rattle.std.proofs.Common.{suc, zero, ◌≡◌, ℕ, ◌+◌, ◌-◌, ◌<◌, ◌≤◌, Bool, true, false, List, [], ◌∷◌, ◌++◌, length, take, drop, refl, ap, ◌∙◌, sym, subst, arith, append_assoc, add-one, Some, slice_get, ◌⊎◌, inl, inr, length-append, ◌==◌, not, get_or, MatchBool}
+use Rattle.std.proofs.lemmas.Bool.{cases_Bool, cases_lt, eqb-true, eqb-false, both_ways, not-true}
+use Rattle.std.proofs.lemmas.List.{take_all, append-nil}
+use Rattle.std.proofs.Math.Seq.{drop-length}
+use Rattle.mlir_ir.specs.Grammar.{line}
+use Rattle.mlir_ir.specs.Texts.{Accepts, ends, IsText, BeginsText, IsSyntaxFault, IsTooDeep, IsShallow, opens, closes, is_module, step, opened, regions, names, is_unnamed, NameCouldStand, IsNotHere, IsOtherFault}
+use Rattle.mlir_ir.specs.Trees.{Forest, IsTreeOf}
+use Rattle.mlir_ir.specs.declared.terminal.Terminal.{Terminal}
+use Rattle.mlir_ir.specs.declared.terminal.Terminal.TheVariants.{LeftBrace}
+use Rattle.mlir_ir.specs.declared.syntax.Form.TheVariants.{Whole}
+use Rattle.mlir_parse.proofs.Unique.{derives_accepts}
+use Rattle.mlir_parse.proofs.Bools.{passes}
+
+-- tokens with a tree are a text
+pub tree_text : (ts : List Terminal) (xs : Forest) → IsTreeOf ts xs → IsText ts
+tree_text ts xs d = derives_accepts d [] (subst (λ (z : List Terminal). Accepts [] z) (sym (drop-length ts)) ends)
+
+-- tokens with a tree begin a text
+pub begins_of_tree : (ts : List Terminal) (xs : Forest) → IsTreeOf ts xs → BeginsText ts
+begins_of_tree ts xs d = ([], subst IsText (sym (append-nil ts)) (tree_text ts xs d))
+
+take_drop : (k : ℕ) (ts : List Terminal) → take k ts ++ drop k ts ≡ ts
+take_drop zero ts = refl
+take_drop (suc k) [] = refl
+take_drop (suc k) (c ∷ ts) = ap (λ z. c ∷ z) (take_drop k ts)
+
+-- the front of a front begins the same text
+pub take_begins : (ts : List Terminal) (k : ℕ) → BeginsText ts → BeginsText (take k ts)
+take_begins ts k (more, text) =
+    (drop k ts ++ more, subst IsText (ap (λ z. z ++ more) (sym (take_drop k ts)) ∙ append_assoc (take k ts) (drop k ts) more) text)
+
+-- an unfinished text begins one
+pub begins_at_end : (ts : List Terminal) (k : ℕ) → IsSyntaxFault ts k → k ≡ length ts → BeginsText ts
+begins_at_end ts k fault last = subst BeginsText (take_all k ts (omega (arith, last))) fault.before
+
+-- tokens with an earlier fault begin none
+pub begins_none : (ts : List Terminal) (k : ℕ) → IsSyntaxFault ts k → (k ≡ length ts → ⊥) → BeginsText ts → ⊥
+begins_none ts k fault inside begun =
+    let within : k ≤ length ts = fault.within in
+    let less : k < length ts = omega arith in
+    fault.none less (take_begins ts (k + 1) begun)
+
+opened-append : (n : ℕ) (x y : List Terminal) → opened n (x ++ y) ≡ opened (opened n x) y
+opened-append n [] y = refl
+opened-append n (c ∷ x) y = opened-append (step n c) x y
+
+take_next : (ts : List Terminal) (k : ℕ) (c : Terminal) → slice_get ts k ≡ Some c → take (suc k) ts ≡ take k ts ++ c ∷ []
+take_next [] zero c here = cc
+take_next [] (suc k) c here = cc
+take_next (b ∷ ts) zero c here = let same : b ≡ c = cc in ap (λ z. z ∷ []) same
+take_next (b ∷ ts) (suc k) c here = ap (λ z. b ∷ z) (take_next ts k c here)
+
+-- one more region
+regions_up : (x : List Terminal) → regions x ≡ 12 → regions (x ++ LeftBrace ∷ []) ≡ 13
+regions_up [] full = absurd (omega (arith, full))
+regions_up (c ∷ x) full =
+    elim (cases_Bool (is_module c)) [
+      | inl own ↦ let before : opened 0 x - 1 ≡ 12 = rw own at full in
+          let after : opened 0 (x ++ LeftBrace ∷ []) ≡ opened 0 x + 1 = opened-append 0 x (LeftBrace ∷ []) in
+          rw own (omega (arith, before, after))
+      | inr other ↦ let before : opened 0 (c ∷ x) ≡ 12 = rw other at full in
+          let after : opened 0 (c ∷ x ++ LeftBrace ∷ []) ≡ opened 0 (c ∷ x) + 1 = opened-append (step 0 c) x (LeftBrace ∷ []) in
+          rw other (omega (arith, before, after))
+    ]
+
+-- behind the brace thirteen regions are open
+pub regions_behind : (ts : List Terminal) (k : ℕ) → IsTooDeep ts k → regions (take (k + 1) ts) ≡ 13
+regions_behind ts k deep =
+    let up : regions (take k ts ++ LeftBrace ∷ []) ≡ 13 = regions_up (take k ts) deep.full in
+    rw (add-one k) (ap regions (take_next ts k LeftBrace deep.brace) ∙ up)
+
+-- no region is too deep where all are shallow
+pub deep_not_shallow : (ts : List Terminal) (k : ℕ) → IsTooDeep ts k → IsShallow ts → ⊥
+deep_not_shallow ts k deep shallow =
+    let low : regions (take (k + 1) ts) ≤ 12 = shallow (k + 1) in
+    omega (arith, low, regions_behind ts k deep)
+
+step_flat : (n : ℕ) (t : Terminal) → opens t ≡ false → step n t ≤ n
+step_flat n t flat =
+    elim (cases_Bool (closes t)) [ inl down ↦ rw (flat, down) (omega arith) | inr same ↦ rw (flat, same) (omega arith) ]
+
+regions_flat : (x : List Terminal) (t : Terminal) → opens t ≡ false → regions (x ++ t ∷ []) ≤ regions x
+regions_flat [] t flat =
+    let low : step 0 t ≤ 0 = step_flat 0 t flat in
+    elim (cases_Bool (is_module t)) [ inl own ↦ rw own (omega arith) | inr other ↦ rw other low ]
+regions_flat (c ∷ x) t flat =
+    elim (cases_Bool (is_module c)) [
+      | inl own ↦ let after : opened 0 (x ++ t ∷ []) ≡ step (opened 0 x) t = opened-append 0 x (t ∷ []) in
+          let low : step (opened 0 x) t ≤ opened 0 x = step_flat (opened 0 x) t flat in
+          rw own (omega (arith, after, low))
+      | inr other ↦ let after : opened (step 0 c) (x ++ t ∷ []) ≡ step (opened (step 0 c) x) t = opened-append (step 0 c) x (t ∷ []) in
+          let low : step (opened (step 0 c) x) t ≤ opened (step 0 c) x = step_flat (opened (step 0 c) x) t flat in
+          rw other (omega (arith, after, low))
+    ]
+
+take_front : (x y : List Terminal) (k : ℕ) → k ≤ length x → take k (x ++ y) ≡ take k x
+take_front x y zero h = refl
+take_front [] y (suc k) h = absurd (omega arith)
+take_front (c ∷ x) y (suc k) h = ap (λ z. c ∷ z) (take_front x y k (omega arith))
+
+-- a token that opens no brace keeps the tokens shallow
+pub shallow_more : (x : List Terminal) (t : Terminal) → opens t ≡ false → IsShallow x → IsShallow (x ++ t ∷ [])
+shallow_more x t flat shallow k =
+    elim (cases_lt (length x) k) [
+      | inl beyond ↦ let whole : take k (x ++ t ∷ []) ≡ x ++ t ∷ [] = take_all k (x ++ t ∷ []) (omega (arith, length-append x (t ∷ []))) in
+          let low : regions (x ++ t ∷ []) ≤ regions x = regions_flat x t flat in
+          let all : take (length x) x ≡ x = take_all (length x) x (omega arith) in
+          let most : regions (take (length x) x) ≤ 12 = shallow (length x) in
+          omega (arith, ap regions whole, ap regions all, low, most)
+      | inr within ↦ let front : take k (x ++ t ∷ []) ≡ take k x = take_front x (t ∷ []) k within in
+          let most : regions (take k x) ≤ 12 = shallow k in
+          omega (arith, ap regions front, most)
+    ]
+
+-- whether the tokens begin a text is told by where they are faulty
+pub begins_by : (ts : List Terminal) (k : ℕ) → IsSyntaxFault ts k → MatchBool (k == length ts) (BeginsText ts) (BeginsText ts → ⊥)
+begins_by ts k fault = decide (k == length ts) refl
+  where
+    decide : (b : Bool) → (k == length ts) ≡ b → MatchBool b (BeginsText ts) (BeginsText ts → ⊥)
+    decide true e = begins_at_end ts k fault (eqb-true k (length ts) e)
+    decide false e = begins_none ts k fault (eqb-false k (length ts) e)
+
+-- tokens that are too deep where all are shallow: nothing
+pub begins_deep : (ts : List Terminal) (k : ℕ) → IsTooDeep ts k → IsShallow ts → BeginsText ts → ⊥
+begins_deep ts k deep shallow = absurd (deep_not_shallow ts k deep shallow)
+
+get_here : (ts : List Terminal) (at : ℕ) (w : Terminal) → at < length ts → w ≡ get_or ts at w → slice_get ts at ≡ Some w
+get_here [] at w within here = absurd (omega arith)
+get_here (c ∷ ts) zero w within here = ap Some (sym here)
+get_here (c ∷ ts) (suc at) w within here = get_here ts at w (omega arith) here
+
+get_none : (ts : List Terminal) (at : ℕ) (w : Terminal) → length ts ≤ at → slice_get ts at ≡ Some w → ⊥
+get_none [] zero w end here = cc
+get_none [] (suc at) w end here = cc
+get_none (c ∷ ts) zero w end here = omega (arith, end)
+get_none (c ∷ ts) (suc at) w end here = get_none ts at w (omega arith) here
+
+get_at : (ts : List Terminal) (at : ℕ) (d : Terminal) → at < length ts → slice_get ts at ≡ Some (get_or ts at d)
+get_at [] at d within = absurd (omega arith)
+get_at (c ∷ ts) zero d within = refl
+get_at (c ∷ ts) (suc at) d within = get_at ts at d (omega arith)
+
+-- a word that names nothing: whether it is not here is whether a name could stand
+pub not_here_by : (ts : List Terminal) (at : ℕ) (d : Terminal) (could : Bool) → IsSyntaxFault ts at → at < length ts → is_unnamed (get_or ts at d) ≡ true
+    → MatchBool could (NameCouldStand (take at ts)) (NameCouldStand (take at ts) → ⊥) → MatchBool could (IsNotHere ts at) (IsOtherFault ts at)
+not_here_by ts at d true fault within unnamed could =
+    record { fault = fault; word = get_or ts at d; here = get_at ts at d within; unnamed = unnamed; could = could }
+not_here_by ts at d false fault within unnamed could = record { fault = fault; other = λ h. could h.could }
+
+-- a token that names something, or is no word
+pub other_named : (ts : List Terminal) (at : ℕ) (w : Terminal) → IsSyntaxFault ts at → at < length ts → w ≡ get_or ts at w → is_unnamed w ≡ false → IsOtherFault ts at
+other_named ts at w fault within here named =
+    record {
+      fault = fault;
+      other = λ h.
+          let both : Some w ≡ Some h.word = sym (get_here ts at w within here) ∙ h.here in
+          let same : w ≡ h.word = cc in
+          both_ways (is_unnamed h.word) (ap is_unnamed (sym same) ∙ named) h.unnamed;
+    }
+
+-- the end is no word
+pub other_end : (ts : List Terminal) (at : ℕ) → IsSyntaxFault ts at → length ts ≤ at → IsOtherFault ts at
+other_end ts at fault end = record { fault = fault; other = λ h. get_none ts at h.word end h.here }
+
+-- names open no brace
+pub name_flat : (i : ℕ) (t : Terminal) → slice_get names i ≡ Some t → opens t ≡ false
+name_flat i t here = not-true (opens t) (passes (λ z. not (opens z)) names refl i t here)
+
+-- one more name that could not stand
+pub none_more : (ts : List Terminal) (n : ℕ) (d : Terminal) → n < 17
+    → ((i : ℕ) → i < n → (t : Terminal) → slice_get names i ≡ Some t → BeginsText (ts ++ t ∷ []) → ⊥)
+    → (BeginsText (ts ++ get_or names n d ∷ []) → ⊥)
+    → (i : ℕ) → i < n + 1 → (t : Terminal) → slice_get names i ≡ Some t → BeginsText (ts ++ t ∷ []) → ⊥
+none_more ts n d inside below last i less t is begun =
+    elim (cases_lt i n) [
+      | inl earlier ↦ below i earlier t is begun
+      | inr later ↦ let same : i ≡ n = omega arith in
+          let both : Some t ≡ Some (get_or names n d) = sym is ∙ ap (slice_get names) same ∙ get_at names n d inside in
+          let one_name : t ≡ get_or names n d = cc in
+          last (subst (λ z. BeginsText (ts ++ z ∷ [])) one_name begun)
+    ]
+
+-- no name could stand
+pub none_could : (ts : List Terminal) → ((i : ℕ) → i < 17 → (t : Terminal) → slice_get names i ≡ Some t → BeginsText (ts ++ t ∷ []) → ⊥) → NameCouldStand ts → ⊥
+none_could ts none (i, t, is, begun) =
+    elim (cases_lt i 17) [ inl within ↦ none i within t is begun | inr beyond ↦ get_none names i t beyond is ]

@@ -1,0 +1,38 @@
+-- What the parts of the parser say of a text.
+use Rattle.std.proofs.Common.{◌≡◌, ℕ, ◌<◌, ◌≤◌, ◌^◌, List, length, map, refl, ap, ◌∙◌, sym, subst, arith}
+use Rattle.std.proofs.lemmas.List.{length-map}
+use Rattle.mlir_ir.specs.Tokens.{AreTokens}
+use Rattle.mlir_ir.specs.Terminals.{terminal_of}
+use Rattle.mlir_ir.specs.Texts.{IsNotHere, IsOtherFault, IsTooDeep}
+use Rattle.mlir_ir.specs.Trees.{IsTreeOf, put, none}
+use Rattle.mlir_ir.specs.Syntaxes.{IsSyntaxOf, StandsFor, place_of}
+use Rattle.mlir_ir.specs.declared.token.Token.{Token}
+use Rattle.mlir_ir.specs.declared.syntax.Syntax.{Syntax}
+use Rattle.mlir_ir.specs.declared.syntax.Branch.{Branch}
+use Rattle.mlir_ir.specs.declared.terminal.Terminal.{Terminal}
+use Rattle.mlir_ir.proofs.TokenLaws.{token_count}
+use Rattle.mlir_parse.specs.Refused.{IsFaultAt}
+
+-- few bytes have few terminals
+pub few_terminals : (text : List ℕ) (tokens : List Token) (terminals : List Terminal) (bound : ℕ)
+    → AreTokens text tokens → terminals ≡ map terminal_of tokens → length text < bound → length terminals < bound
+few_terminals text tokens terminals bound lexed are few =
+    let count : length tokens ≤ length text = token_count text tokens lexed in
+    let same : length terminals ≡ length tokens = ap length are ∙ length-map tokens terminal_of in
+    omega (arith, count, same, few)
+
+-- the tokens with their tree are the syntax
+pub syntax_is : (text : List ℕ) (syntax : Syntax) (terminals : List Terminal)
+    → AreTokens text syntax.tokens → syntax.length ≡ length text → terminals ≡ map terminal_of syntax.tokens → IsTreeOf terminals (put syntax.root none) → IsSyntaxOf text syntax
+syntax_is text syntax terminals lexed long are tree =
+    record {
+      lexed = lexed;
+      length_is = long;
+      stands = record { same = refl; text = text; length_is = long; lexed = lexed; tree = subst (λ (ts : List Terminal). IsTreeOf ts (put syntax.root none)) are tree };
+    }
+
+-- the fault at the byte of its token
+pub fault_at : (IsFault : List Terminal → ℕ → Type 0) (text : List ℕ) (tokens : List Token) (terminals : List Terminal) (token byte : ℕ)
+    → AreTokens text tokens → terminals ≡ map terminal_of tokens → IsFault terminals token → byte ≡ place_of tokens (length text) token → IsFaultAt IsFault text byte
+fault_at IsFault text tokens terminals token byte lexed are fault here =
+    record { tokens = tokens; token = token; lexed = lexed; fault = subst (λ (ts : List Terminal). IsFault ts token) are fault; here = here }

@@ -1,0 +1,21 @@
+use Rattle.std.proofs.Common.{suc, ◌≡◌, ℕ, ◌+◌, ◌<◌, ◌≤◌, Bool, true, false, refl, List, [], ◌∷◌, length, drop, get_or, ap, ◌∙◌, sym, arith, drop-cons, add-one}
+use Rattle.std.proofs.Math.ListN.{drop_of_length-le}
+use Rattle.mlir_parse.specs.Tables.{same, first}
+use Rattle.mlir_ir.specs.Grammar.{Pattern}
+use Rattle.mlir_parse.specs.Runs.{starts, is_next}
+use Rattle.mlir_ir.specs.declared.terminal.Terminal.{Terminal}
+
+pub cut : (ts : List Terminal) (at : ℕ) (c : Terminal) → at < length ts → c ≡ get_or ts at c → drop at ts ≡ c ∷ drop (at + 1) ts
+cut ts at c h e = rw (add-one) (drop-cons ts at c h ∙ ap (λ x. x ∷ drop (suc at) ts) (sym e))
+
+pub starts_here : (r : Pattern) (ts : List Terminal) (at : ℕ) (c : Terminal) → at < length ts → c ≡ get_or ts at c → starts r (drop at ts) ≡ first r c
+starts_here r ts at c h e = ap (starts r) (cut ts at c h e)
+
+pub starts_none : (r : Pattern) (ts : List Terminal) (at : ℕ) → length ts ≤ at → starts r (drop at ts) ≡ false
+starts_none r ts at h = ap (starts r) (drop_of_length-le ts h)
+
+pub next_here : (d : Terminal) (ts : List Terminal) (at : ℕ) (c : Terminal) → at < length ts → c ≡ get_or ts at c → is_next d (drop at ts) ≡ same d c
+next_here d ts at c h e = ap (is_next d) (cut ts at c h e)
+
+pub next_none : (d : Terminal) (ts : List Terminal) (at : ℕ) → length ts ≤ at → is_next d (drop at ts) ≡ false
+next_none d ts at h = ap (is_next d) (drop_of_length-le ts h)

@@ -1,0 +1,31 @@
+-- What a run over the whole tokens gives: the tree, or the fault.
+use Rattle.std.proofs.Common.{◌≡◌, ℕ, ◌<◌, ◌≤◌, List, [], ◌∷◌, length, drop, refl, ap, ◌∙◌, sym, subst, arith, Ok, Err}
+use Rattle.mlir_ir.specs.Grammar.{Pattern, line, body}
+use Rattle.mlir_ir.specs.Texts.{IsSyntaxFault, IsTooDeep}
+use Rattle.mlir_ir.specs.Trees.{Forest, none, node, join, put, forest, Derives, IsTreeOf, derive_line}
+use Rattle.mlir_ir.specs.declared.terminal.Terminal.{Terminal}
+use Rattle.mlir_ir.specs.declared.syntax.Form.TheVariants.{Whole}
+use Rattle.mlir_ir.specs.declared.syntax.Branch.{Branch}
+use Rattle.mlir_parse.specs.Runs.{Runs, Done, Stop, Deep}
+use Rattle.mlir_parse.specs.Seen.{Gives, Grows, IsFault}
+use Rattle.mlir_parse.specs.declared.fault.Fault.{Fault}
+use Rattle.mlir_parse.specs.declared.fault.Fault.TheVariants.{NoMemory, Syntax, TooDeep}
+use Rattle.mlir_parse.proofs.Wholes.{stopped, not_all, too_deep}
+
+pub fault_is : (ts : List Terminal) (r : Pattern) (e : Fault) → r ≡ body Whole → Gives 0 r ts 0 (Err e) → IsFault ts e
+fault_is ts r (Syntax k) is gives = stopped ts k gives.0 (subst (λ z. Runs 0 z ts (Stop (drop k ts))) is gives.1)
+fault_is ts r (TooDeep k) is gives = too_deep ts k gives.0 (subst (λ z. Runs 0 z ts (Deep (drop k ts))) is gives.1)
+fault_is ts r NoMemory is gives = tt
+
+pub early_end : (ts : List Terminal) (r : Pattern) (next : ℕ) → r ≡ body Whole → Gives 0 r ts 0 (Ok next) → next < length ts → IsSyntaxFault ts next
+early_end ts r next is gives less = not_all ts next less (subst (λ z. Runs 0 z ts (Done (drop next ts))) is gives.2)
+
+pub whole_tree : (ts : List Terminal) (r : Pattern) (next : ℕ) (parts : List Branch) (root : Branch)
+    → r ≡ body Whole → Gives 0 r ts 0 (Ok next) → length ts ≤ next → Grows ts 0 r 0 [] parts next
+    → ((rest : Forest) → put root rest ≡ node Whole 0 (forest parts) rest) → IsTreeOf ts (put root none)
+whole_tree ts r next parts root is gives far grows shown =
+    let last : next ≡ length ts = omega (arith, gives.1, far) in
+    let inside : Derives ts 0 (body Whole) 0 grows.trees (length ts) =
+    subst (λ z. Derives ts 0 (body Whole) 0 grows.trees z) last (subst (λ z. Derives ts 0 z 0 grows.trees next) is grows.derived) in
+    let parts_are : forest parts ≡ grows.trees = grows.grown in
+    subst (λ z. IsTreeOf ts z) (sym (shown none ∙ ap (λ z. node Whole 0 z none) parts_are)) (derive_line inside)

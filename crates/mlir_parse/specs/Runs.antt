@@ -1,0 +1,44 @@
+-- How a parser goes, deciding by one token.
+use Rattle.std.specs.Prelude.{ℕ, ◌≡◌, ◌+◌, ◌<◌, ◌≤◌, Bool, true, false, List, [], ◌∷◌}
+use Rattle.mlir_parse.specs.Tables.{same, first}
+use Rattle.mlir_ir.specs.Grammar.{Pattern, nothing, one, line, both, either, many, region, body}
+use Rattle.mlir_ir.specs.declared.terminal.Terminal.{Terminal}
+use Rattle.mlir_ir.specs.declared.terminal.Terminal.TheVariants.{Module, Function, Private, TypeWord, Return, Constant, Truth, Binary, FlaggedBinary, Cast, FlaggedCast, Compare, Predicate, Select, Call, If, Else, For, To, Step, IterArgs, While, Condition, Do, Yield, Overflow, Nsw, Nuw, OtherWord, Value, Symbol, Caret, Pick, Decimal, Hexadecimal, LeftParen, RightParen, LeftBrace, RightBrace, Less, Greater, Comma, Colon, Equals, Arrow, Minus}
+use Rattle.mlir_ir.specs.declared.syntax.Form.{Form}
+use Rattle.mlir_ir.specs.declared.syntax.Form.TheVariants.{Whole, Func, Params, Types, Results, TypeName, Body, Ends, Uses, Use, Op, Pack, Kind, Inits, Region, Flags}
+
+-- where a run ends: what is left behind what was read, from a token on that can't stand there, or from a brace on that opens too region
+pub data Outcome : Type 0 where
+  Done : List Terminal → Outcome
+  Stop : List Terminal → Outcome
+  Deep : List Terminal → Outcome
+
+abbrev pub Fails : Outcome → Type 0
+Fails (Done us) = ⊥
+Fails (Stop us) = Unit {0}
+Fails (Deep us) = Unit {0}
+
+-- whether the next token, if there is one, may begin a text of it
+abbrev pub starts : Pattern → List Terminal → Bool
+starts r [] = false
+starts r (c ∷ ts) = first r c
+
+abbrev pub is_next : Terminal → List Terminal → Bool
+is_next d [] = false
+is_next d (c ∷ ts) = same d c
+
+pub data Runs : ℕ → Pattern → List Terminal → Outcome → Type 0 where
+  run_nothing : {n : ℕ} {ts : List Terminal} → Runs n nothing ts (Done ts)
+  run_one : {n : ℕ} {c : Terminal} {ts : List Terminal} → Runs n (one c) (c ∷ ts) (Done ts)
+  run_other : {n : ℕ} {c : Terminal} {ts : List Terminal} → is_next c ts ≡ false → Runs n (one c) ts (Stop ts)
+  run_line : {n : ℕ} {f : Form} {ts : List Terminal} {o : Outcome} → Runs n (body f) ts o → Runs n (line f) ts o
+  run_both : {n : ℕ} {a b : Pattern} {ts us : List Terminal} {o : Outcome} → Runs n a ts (Done us) → Runs n b us o → Runs n (both a b) ts o
+  run_both_fails : {n : ℕ} {a b : Pattern} {ts : List Terminal} {o : Outcome} → Runs n a ts o → Fails o → Runs n (both a b) ts o
+  run_left : {n : ℕ} {a b : Pattern} {ts : List Terminal} {o : Outcome} → starts a ts ≡ true → Runs n a ts o → Runs n (either a b) ts o
+  run_right : {n : ℕ} {a b : Pattern} {ts : List Terminal} {o : Outcome} → starts a ts ≡ false → Runs n b ts o → Runs n (either a b) ts o
+  run_enough : {n : ℕ} {a : Pattern} {ts : List Terminal} → starts a ts ≡ false → Runs n (many a) ts (Done ts)
+  run_again : {n : ℕ} {a : Pattern} {ts us : List Terminal} {o : Outcome} → starts a ts ≡ true → Runs n a ts (Done us) → Runs n (many a) us o → Runs n (many a) ts o
+  run_again_fails : {n : ℕ} {a : Pattern} {ts : List Terminal} {o : Outcome} → starts a ts ≡ true → Runs n a ts o → Fails o → Runs n (many a) ts o
+  run_no_brace : {n : ℕ} {a : Pattern} {ts : List Terminal} → is_next LeftBrace ts ≡ false → Runs n (region a) ts (Stop ts)
+  run_too_deep : {n : ℕ} {a : Pattern} {ts : List Terminal} → 12 ≤ n → Runs n (region a) (LeftBrace ∷ ts) (Deep (LeftBrace ∷ ts))
+  run_region : {n : ℕ} {a : Pattern} {ts : List Terminal} {o : Outcome} → n < 12 → Runs (n + 1) (both a (one RightBrace)) ts o → Runs n (region a) (LeftBrace ∷ ts) o

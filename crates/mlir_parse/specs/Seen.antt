@@ -1,0 +1,46 @@
+-- The grammar's right sides as the code has them.
+use Rattle.std.specs.Prelude.{ℕ, ◌≡◌, ◌<◌, ◌≤◌, List, length, drop, slice_index_or, Result, Ok, Err}
+use Rattle.mlir_ir.specs.Grammar.{Pattern, nothing, one, line, both, either, many, region, body}
+use Rattle.mlir_parse.specs.Tables.{form_at}
+use Rattle.mlir_parse.specs.Runs.{Runs, Done, Stop, Deep}
+use Rattle.mlir_ir.specs.Texts.{IsSyntaxFault, IsTooDeep}
+use Rattle.mlir_ir.specs.Trees.{Forest, join, forest, Derives}
+use Rattle.mlir_ir.specs.declared.terminal.Terminal.{Terminal}
+use Rattle.mlir_ir.specs.declared.syntax.Branch.{Branch}
+use Rattle.mlir_ir.specs.declared.syntax.Form.{Form}
+use Rattle.mlir_parse.specs.declared.fault.Fault.{Fault}
+use Rattle.mlir_parse.specs.declared.fault.Fault.TheVariants.{NoMemory, Syntax, TooDeep}
+use Rattle.mlir_parse.specs.declared.rule.Rule.{Rule}
+use Rattle.mlir_parse.specs.declared.rule.Rule.TheVariants.{Nothing, One, Line, Both', Either', Many', Region'}
+
+abbrev pub seen : Rule → Pattern
+seen Nothing = nothing
+seen (One c) = one c
+seen (Line f) = line f
+seen (Both' p a q b) = both (seen a) (seen b)
+seen (Either' p a q b) = either (seen a) (seen b)
+seen (Many' p a) = many (seen a)
+seen (Region' p a) = region (seen a)
+
+-- the right sides of all lines, in the order of their numbers
+abbrev pub AreLines : List Rule → Type 0
+AreLines rules = (f : Form) → (form_at f < length rules) × ((d : Rule) → seen (slice_index_or rules (form_at f) d) ≡ body f)
+
+-- the run from a place on ends so
+abbrev pub Gives : ℕ → Pattern → List Terminal → ℕ → Result ℕ Fault → Type 0
+Gives n r ts at (Ok next) = (at ≤ next) × (next ≤ length ts) × Runs n r (drop at ts) (Done (drop next ts))
+Gives n r ts at (Err (Syntax k)) = (k ≤ length ts) × Runs n r (drop at ts) (Stop (drop k ts))
+Gives n r ts at (Err (TooDeep k)) = (k ≤ length ts) × Runs n r (drop at ts) (Deep (drop k ts))
+Gives n r ts at (Err NoMemory) = Unit {0}
+
+-- the fault that the reader finds is that of the tokens
+abbrev pub IsFault : List Terminal → Fault → Type 0
+IsFault ts (Syntax k) = IsSyntaxFault ts k
+IsFault ts (TooDeep k) = IsTooDeep ts k
+IsFault ts NoMemory = Unit {0}
+
+-- the branches behind the old ones derive these tokens
+pub record Grows (ts : List Terminal) (n : ℕ) (r : Pattern) (at : ℕ) (old new : List Branch) (next : ℕ) : Type 0 where
+  pub trees : Forest
+  pub grown : forest new ≡ join (forest old) trees
+  pub derived : Derives ts n r at trees next

@@ -1,0 +1,156 @@
+ghost use Rattle.std.specs.Prelude.{◌≡◌, ◌≤◌, ◌<◌, ◌^◌, length, drop, IfOk};
+ghost use Rattle.mlir_ir.specs.Grammar.{many, one, body};
+ghost use Rattle.mlir_parse.specs.Seen.{seen, AreLines, Gives, Grows};
+ghost use Rattle.mlir_parse.specs.Runs.{starts, is_next};
+ghost use Rattle.mlir_parse.specs.Tables.{weight};
+
+use crate::fault::Fault;
+use crate::rule::{Rule, begins, form_number, is_same};
+use mlir_ir::{Branch, Form, Terminal};
+use std::alloc::Global;
+
+/// Whether a text of the rule may begin at the place.
+#[tactic(auto, using(crate::proofs::Places::starts_here, crate::proofs::Places::starts_none))]
+fn may_begin(rule: &Rule, tokens: &[Terminal], at: usize) -> bool
+    ensures { result ≡ starts (seen rule.now) (drop at tokens.now) }
+{
+    at < tokens.len() && begins(rule, tokens[at])
+}
+
+/// Whether the terminal stands at the place.
+#[tactic(auto, using(crate::proofs::Places::next_here, crate::proofs::Places::next_none))]
+fn next_is(terminal: Terminal, tokens: &[Terminal], at: usize) -> bool
+    ensures { result ≡ is_next terminal (drop at tokens.now) }
+{
+    at < tokens.len() && is_same(terminal, tokens[at])
+}
+
+/// Reads one token, and adds its branch.
+#[tactic(auto, using(crate::proofs::Gives::gives_one, crate::proofs::Gives::gives_other))]
+fn read_one(
+    alloc: Global,
+    out: &mut Vec<Branch>,
+    terminal: Terminal,
+    depth: usize,
+    tokens: &[Terminal],
+    at: usize,
+) -> Result<usize, Fault>
+    requires within { at ≤ length tokens.now }
+    requires few { length tokens.now < 2 ^ 32 }
+    ensures gives { Gives depth (one terminal) tokens.now at result }
+    ensures grows { IfOk result (Grows tokens.now depth (one terminal) at out.old.items out.new.items) }
+{
+    if next_is(terminal, tokens, at) {
+        out.push(Branch::leaf(alloc, at as u32))?;
+        Ok(at + 1)
+    } else {
+        Err(Fault::Syntax(at))
+    }
+}
+
+/// Reads texts of the rule as long as one may begin, and adds their branches.
+#[cycle(reader)]
+#[tactic(auto, using(crate::proofs::Gives::gives_again, crate::proofs::Gives::gives_again_fails, crate::proofs::Gives::gives_enough, crate::proofs::Gives::goes_on))]
+fn read_many(
+    alloc: Global,
+    out: &mut Vec<Branch>,
+    lines: &[Rule],
+    rule: &Rule,
+    depth: usize,
+    tokens: &[Terminal],
+    at: usize,
+) -> Result<usize, Fault>
+    requires lines { AreLines lines.now }
+    requires small { weight (seen rule.now) < 1000 }
+    requires within { at ≤ length tokens.now }
+    requires few { length tokens.now < 2 ^ 32 }
+    requires shallow { depth ≤ 12 }
+    ensures gives { Gives depth (many (seen rule.now)) tokens.now at result }
+    ensures grows { IfOk result (Grows tokens.now depth (many (seen rule.now)) at out.old.items out.new.items) }
+{
+    let mut here = at;
+    'again: while may_begin(rule, tokens, here) {
+        match read(alloc, out, lines, rule, depth, tokens, here) {
+            Err(fault) => return Err(fault),
+            Ok(next) => here = next,
+        }
+    }
+    Ok(here)
+}
+
+/// The right side of the line.
+pub fn line_rule(lines: &[Rule], form: Form) -> &Rule
+    requires { AreLines lines.now }
+    ensures { seen result.now ≡ body form }
+{
+    &lines[form_number(form)]
+}
+
+/// Reads a text of the rule from the place on, with that many regions open, and adds its branches.
+#[cycle(reader)]
+#[tactic(auto, using(crate::proofs::Gives::gives_nothing, crate::proofs::Gives::gives_line, crate::proofs::Gives::gives_both, crate::proofs::Gives::gives_both_fails, crate::proofs::Gives::gives_left, crate::proofs::Gives::gives_right, crate::proofs::Gives::gives_no_brace, crate::proofs::Gives::gives_too_deep, crate::proofs::Gives::gives_region_ends, crate::proofs::Gives::gives_region_fails))]
+pub fn read(
+    alloc: Global,
+    out: &mut Vec<Branch>,
+    lines: &[Rule],
+    rule: &Rule,
+    depth: usize,
+    tokens: &[Terminal],
+    at: usize,
+) -> Result<usize, Fault>
+    requires lines { AreLines lines.now }
+    requires small { weight (seen rule.now) < 1000 }
+    requires within { at ≤ length tokens.now }
+    requires few { length tokens.now < 2 ^ 32 }
+    requires shallow { depth ≤ 12 }
+    ensures gives { Gives depth (seen rule.now) tokens.now at result }
+    ensures grows { IfOk result (Grows tokens.now depth (seen rule.now) at out.old.items out.new.items) }
+{
+    match rule {
+        Rule::Nothing => Ok(at),
+        Rule::One(terminal) => read_one(alloc, out, *terminal, depth, tokens, at),
+        Rule::Line(form) => {
+            let mut parts = Vec::new(alloc);
+            match read(
+                alloc,
+                &mut parts,
+                lines,
+                line_rule(lines, *form),
+                depth,
+                tokens,
+                at,
+            ) {
+                Err(fault) => Err(fault),
+                Ok(next) => {
+                    out.push(Branch::line(*form, at as u32, parts))?;
+                    Ok(next)
+                }
+            }
+        }
+        Rule::Both(a, b) => match read(alloc, out, lines, a, depth, tokens, at) {
+            Err(fault) => Err(fault),
+            Ok(mid) => read(alloc, out, lines, b, depth, tokens, mid),
+        },
+        Rule::Either(a, b) => {
+            if may_begin(a, tokens, at) {
+                read(alloc, out, lines, a, depth, tokens, at)
+            } else {
+                read(alloc, out, lines, b, depth, tokens, at)
+            }
+        }
+        Rule::Many(a) => read_many(alloc, out, lines, a, depth, tokens, at),
+        Rule::Region(a) => {
+            if !next_is(Terminal::LeftBrace, tokens, at) {
+                return Err(Fault::Syntax(at));
+            }
+            if depth >= 12 {
+                return Err(Fault::TooDeep(at));
+            }
+            out.push(Branch::leaf(alloc, at as u32))?;
+            match read(alloc, out, lines, a, depth + 1, tokens, at + 1) {
+                Err(fault) => Err(fault),
+                Ok(end) => read_one(alloc, out, Terminal::RightBrace, depth + 1, tokens, end),
+            }
+        }
+    }
+}

@@ -1,0 +1,211 @@
+ghost use Rattle.std.specs.Prelude.{◌≡◌, ◌==◌};
+ghost use Rattle.mlir_parse.specs.Tables as tables;
+ghost use Rattle.mlir_parse.specs.Seen.{seen};
+
+use mlir_ir::{Form, Terminal};
+use std::alloc::{AllocError, Global};
+
+/// The right side of a line of the grammar.
+#[derive(Debug, Drop)]
+pub enum Rule {
+    /// No token.
+    Nothing,
+    /// One token.
+    One(Terminal),
+    /// What a line says.
+    Line(Form),
+    /// One behind the other.
+    Both(Box<Rule>, Box<Rule>),
+    /// One of the two.
+    Either(Box<Rule>, Box<Rule>),
+    /// Any number of times.
+    Many(Box<Rule>),
+    /// A region: what stands inside its braces.
+    Region(Box<Rule>),
+}
+
+impl Rule {
+    ghost use Rattle.std.specs.Prelude.{IfOk};
+    ghost use Rattle.mlir_ir.specs.Grammar.{both};
+
+    /// This rule, and the next one behind it.
+    pub fn then(self, alloc: Global, next: Rule) -> Result<Rule, AllocError>
+        ensures { IfOk result (λ rule. seen rule ≡ both (seen self) (seen next)) }
+    {
+        Ok(Rule::Both(Box::new(alloc, self)?, Box::new(alloc, next)?))
+    }
+}
+
+/// The number of the terminal.
+fn number_of(terminal: Terminal) -> u8
+    ensures { result ≡ tables.number terminal }
+{
+    match terminal {
+        Terminal::Module => 0,
+        Terminal::Function => 1,
+        Terminal::Private => 2,
+        Terminal::TypeWord => 3,
+        Terminal::Return => 4,
+        Terminal::Constant => 5,
+        Terminal::Truth => 6,
+        Terminal::Binary => 7,
+        Terminal::FlaggedBinary => 8,
+        Terminal::Cast => 9,
+        Terminal::FlaggedCast => 10,
+        Terminal::Compare => 11,
+        Terminal::Predicate => 12,
+        Terminal::Select => 13,
+        Terminal::Call => 14,
+        Terminal::If => 15,
+        Terminal::Else => 16,
+        Terminal::For => 17,
+        Terminal::To => 18,
+        Terminal::Step => 19,
+        Terminal::IterArgs => 20,
+        Terminal::While => 21,
+        Terminal::Condition => 22,
+        Terminal::Do => 23,
+        Terminal::Yield => 24,
+        Terminal::Overflow => 25,
+        Terminal::Nsw => 26,
+        Terminal::Nuw => 27,
+        Terminal::OtherWord => 28,
+        Terminal::Value => 29,
+        Terminal::Symbol => 30,
+        Terminal::Caret => 31,
+        Terminal::Pick => 32,
+        Terminal::Decimal => 33,
+        Terminal::Hexadecimal => 34,
+        Terminal::LeftParen => 35,
+        Terminal::RightParen => 36,
+        Terminal::LeftBrace => 37,
+        Terminal::RightBrace => 38,
+        Terminal::Less => 39,
+        Terminal::Greater => 40,
+        Terminal::Comma => 41,
+        Terminal::Colon => 42,
+        Terminal::Equals => 43,
+        Terminal::Arrow => 44,
+        Terminal::Minus => 45,
+    }
+}
+
+/// Whether two terminals are the same.
+pub fn is_same(a: Terminal, b: Terminal) -> bool
+    ensures { result ≡ tables.same a b }
+{
+    number_of(a) == number_of(b)
+}
+
+/// The place of the form among the lines.
+pub fn form_number(form: Form) -> usize
+    ensures { result ≡ tables.form_at form }
+{
+    match form {
+        Form::Leaf => 0,
+        Form::Whole => 1,
+        Form::Func => 2,
+        Form::Params => 3,
+        Form::Types => 4,
+        Form::Results => 5,
+        Form::TypeName => 6,
+        Form::Body => 7,
+        Form::Ends => 8,
+        Form::Uses => 9,
+        Form::Use => 10,
+        Form::Op => 11,
+        Form::Pack => 12,
+        Form::Kind => 13,
+        Form::Inits => 14,
+        Form::Region => 15,
+        Form::Flags => 16,
+    }
+}
+
+/// Whether the line may begin with the terminal.
+fn line_begins(form: Form, terminal: Terminal) -> bool
+    ensures { result ≡ tables.first_line form terminal }
+{
+    match form {
+        Form::Leaf => false,
+        Form::Whole => is_same(Terminal::Module, terminal) || is_same(Terminal::Function, terminal),
+        Form::Func => is_same(Terminal::Function, terminal),
+        Form::Params => is_same(Terminal::Value, terminal),
+        Form::Types => is_same(Terminal::TypeWord, terminal),
+        Form::Results => is_same(Terminal::TypeWord, terminal)
+            || is_same(Terminal::LeftParen, terminal),
+        Form::TypeName => is_same(Terminal::TypeWord, terminal),
+        Form::Body => is_same(Terminal::LeftBrace, terminal),
+        Form::Ends => is_same(Terminal::Value, terminal),
+        Form::Uses => is_same(Terminal::Value, terminal),
+        Form::Use => is_same(Terminal::Value, terminal),
+        Form::Op => is_same(Terminal::Constant, terminal)
+            || is_same(Terminal::Binary, terminal)
+            || is_same(Terminal::FlaggedBinary, terminal)
+            || is_same(Terminal::Cast, terminal)
+            || is_same(Terminal::FlaggedCast, terminal)
+            || is_same(Terminal::Compare, terminal)
+            || is_same(Terminal::Select, terminal)
+            || is_same(Terminal::Call, terminal)
+            || is_same(Terminal::If, terminal)
+            || is_same(Terminal::For, terminal)
+            || is_same(Terminal::While, terminal)
+            || is_same(Terminal::Value, terminal),
+        Form::Pack => is_same(Terminal::Value, terminal),
+        Form::Kind => is_same(Terminal::Constant, terminal)
+            || is_same(Terminal::Binary, terminal)
+            || is_same(Terminal::FlaggedBinary, terminal)
+            || is_same(Terminal::Cast, terminal)
+            || is_same(Terminal::FlaggedCast, terminal)
+            || is_same(Terminal::Compare, terminal)
+            || is_same(Terminal::Select, terminal)
+            || is_same(Terminal::Call, terminal)
+            || is_same(Terminal::If, terminal)
+            || is_same(Terminal::For, terminal)
+            || is_same(Terminal::While, terminal),
+        Form::Inits => is_same(Terminal::Value, terminal),
+        Form::Region => is_same(Terminal::LeftBrace, terminal),
+        Form::Flags => is_same(Terminal::Overflow, terminal),
+    }
+}
+
+/// Whether the line may be nothing.
+fn line_is_empty(form: Form) -> bool
+    ensures { result ≡ tables.empty_line form }
+{
+    match form {
+        Form::Leaf => true,
+        Form::Whole => true,
+        _ => false,
+    }
+}
+
+/// Whether the rule has a text without tokens.
+fn can_be_empty(rule: &Rule) -> bool
+    ensures { result ≡ tables.empty (seen rule.now) }
+{
+    match rule {
+        Rule::Nothing => true,
+        Rule::One(_) => false,
+        Rule::Line(form) => line_is_empty(*form),
+        Rule::Both(a, b) => can_be_empty(a) && can_be_empty(b),
+        Rule::Either(a, b) => can_be_empty(a) || can_be_empty(b),
+        Rule::Many(_) => true,
+        Rule::Region(_) => false,
+    }
+}
+
+/// Whether a text of the rule may begin with the terminal.
+pub fn begins(rule: &Rule, terminal: Terminal) -> bool
+    ensures { result ≡ tables.first (seen rule.now) terminal }
+{
+    match rule {
+        Rule::Nothing => false,
+        Rule::One(wanted) => is_same(*wanted, terminal),
+        Rule::Line(form) => line_begins(*form, terminal),
+        Rule::Both(a, b) => begins(a, terminal) || (can_be_empty(a) && begins(b, terminal)),
+        Rule::Either(a, b) => begins(a, terminal) || begins(b, terminal),
+        Rule::Many(a) => begins(a, terminal),
+        Rule::Region(_) => is_same(Terminal::LeftBrace, terminal),
+    }
+}
