@@ -8,142 +8,98 @@ use super::make::{ForHead, Named, counted, gives, one, single, sum};
 use mlir_ir::ShapeFault::{self, Count, Size, Use, WrongType};
 use std::test::Fail;
 
-/// The packs and the bits of the results, and the yields.
-type Results<'a> = (Named<'a>, &'a [u8], &'a [u32]);
-
-const R: Results = (&[("r", 1)], &[32], &[0]);
-
 const K: (&str, u8) = ("k", 0);
 
 const X: Named = &[("x", 32)];
 
-/// The counter is the label 16384, `%k` 16385 and `%x` 16386; nothing stands in the body, so `%r` is 16387.
-const HEADS: [(ForHead, Results, u32, Option<ShapeFault>); 44] = [
-    (([2, 2, 2], K, X, &[0]), R, 0, None),
-    (([9, 2, 2], K, X, &[0]), R, 3, Some(Use)),
-    (([2, 9, 2], K, X, &[0]), R, 3, Some(Use)),
-    (([2, 2, 9], K, X, &[0]), R, 3, Some(Use)),
+/// The counter is the label 16384, `%k` 16385 and `%x` 16386; nothing stands in the body, which yields `%a`,
+/// and `%r` is 16387.
+const HEADS: [(ForHead, u32, Option<ShapeFault>); 28] = [
+    (([2, 2, 2], K, X, &[0]), 0, None),
+    (([9, 2, 2], K, X, &[0]), 3, Some(Use)),
+    (([2, 9, 2], K, X, &[0]), 3, Some(Use)),
+    (([2, 2, 9], K, X, &[0]), 3, Some(Use)),
     // a loop's own variables and results aren't in scope in its header, and its counter is no value
-    (([16385, 2, 2], K, X, &[0]), R, 3, Some(Use)),
-    (([2, 2, 16385], K, X, &[0]), R, 3, Some(Use)),
-    (([2, 16387, 2], K, X, &[0]), R, 3, Some(Use)),
-    (([2, 16384, 2], K, X, &[0]), R, 3, Some(Use)),
-    (([2, 2, 2], K, X, &[16386]), R, 3, Some(Use)),
-    (([2, 2, 2], K, X, &[9]), R, 3, Some(Use)),
-    (([0, 2, 2], K, X, &[0]), R, 3, Some(WrongType)),
-    (([2, 0, 2], K, X, &[0]), R, 3, Some(WrongType)),
-    (([2, 2, 0], K, X, &[0]), R, 3, Some(WrongType)),
-    (([0, 3, 0], ("k", 32), X, &[0]), R, 0, None),
-    (([2, 2, 2], ("k", 32), X, &[0]), R, 3, Some(WrongType)),
-    (([2, 2, 2], ("k", 64), X, &[0]), R, 3, Some(WrongType)),
-    (([2, 2, 2], K, X, &[1]), R, 3, Some(WrongType)),
-    (([2, 2, 2], K, X, &[]), R, 3, Some(Count)),
-    (([2, 2, 2], K, X, &[0, 0]), R, 3, Some(Count)),
-    (([2, 2, 2], K, &[], &[]), R, 3, Some(Count)),
+    (([16385, 2, 2], K, X, &[0]), 3, Some(Use)),
+    (([2, 2, 16385], K, X, &[0]), 3, Some(Use)),
+    (([2, 16387, 2], K, X, &[0]), 3, Some(Use)),
+    (([2, 16384, 2], K, X, &[0]), 3, Some(Use)),
+    (([2, 2, 2], K, X, &[16386]), 3, Some(Use)),
+    (([2, 2, 2], K, X, &[9]), 3, Some(Use)),
+    (([0, 2, 2], K, X, &[0]), 3, Some(WrongType)),
+    (([2, 0, 2], K, X, &[0]), 3, Some(WrongType)),
+    (([2, 2, 0], K, X, &[0]), 3, Some(WrongType)),
+    (([0, 3, 0], ("k", 32), X, &[0]), 0, None),
+    (([2, 2, 2], ("k", 32), X, &[0]), 3, Some(WrongType)),
+    (([2, 2, 2], ("k", 64), X, &[0]), 3, Some(WrongType)),
+    (([2, 2, 2], K, X, &[1]), 3, Some(WrongType)),
+    (([2, 2, 2], K, X, &[]), 3, Some(Count)),
+    (([2, 2, 2], K, X, &[0, 0]), 3, Some(Count)),
+    (([2, 2, 2], K, &[], &[]), 3, Some(Count)),
     // the variables
-    (([2, 2, 2], ("a", 0), X, &[0]), R, 16384, Some(WrongType)),
-    (([2, 2, 2], ("1k", 0), X, &[0]), R, 16384, Some(WrongType)),
-    (([2, 2, 2], ("", 0), X, &[0]), R, 16384, Some(WrongType)),
-    (([2, 2, 2], (TOO_LONG, 0), X, &[0]), R, 16384, Some(Size)),
+    (([2, 2, 2], ("a", 0), X, &[0]), 16384, Some(WrongType)),
+    (([2, 2, 2], ("1k", 0), X, &[0]), 16384, Some(WrongType)),
+    (([2, 2, 2], ("", 0), X, &[0]), 16384, Some(WrongType)),
+    (([2, 2, 2], (TOO_LONG, 0), X, &[0]), 16384, Some(Size)),
+    (([2, 2, 2], K, &[("k", 32)], &[0]), 16385, Some(WrongType)),
+    (([2, 2, 2], K, &[("a", 32)], &[0]), 16385, Some(WrongType)),
+    (([2, 2, 2], K, &[("", 32)], &[0]), 16385, Some(WrongType)),
+    (([2, 2, 2], K, &[(TOO_LONG, 32)], &[0]), 16385, Some(Size)),
+];
+
+#[test]
+fn headers_of_counted_loops(rt: HostRuntime) -> Result<(), Fail> {
+    let alloc = rt.alloc();
+    for (head, at, fault) in HEADS {
+        let kind = counted(alloc, head, Vec::new(alloc), &[0])?;
+        let f = one(alloc, &[("r", 1)], &[32], kind, 0)?;
+        assert!(rt; gives(&f, at, fault), "{head:?}");
+    }
+    Ok(())
+}
+
+/// The arguments and their first values.
+type Carried<'a> = (Named<'a>, &'a [u32]);
+
+/// The packs and the bits of the results, and the yields.
+type Results<'a> = (Named<'a>, &'a [u8], &'a [u32]);
+
+const PAIR: Carried = (&[("x", 32), ("y", 1)], &[0, 1]);
+
+const RESULTS: [(Carried, Results, u32, Option<ShapeFault>); 16] = [
+    ((X, &[0]), (&[("x", 1)], &[32], &[0]), 0, None),
+    ((X, &[0]), (&[("a", 1)], &[32], &[0]), 3, Some(WrongType)),
+    ((X, &[0]), (&[("r", 1)], &[8], &[0]), 3, Some(WrongType)),
+    ((X, &[0]), (&[("r", 2)], &[32], &[0]), 3, Some(Count)),
+    ((X, &[0]), (&[("r", 2)], &[32, 32], &[0, 0]), 3, Some(Count)),
+    ((X, &[0]), (&[], &[], &[]), 3, Some(Count)),
+    ((X, &[0]), (&[("r", 1)], &[32], &[]), 3, Some(Count)),
+    ((X, &[0]), (&[(TOO_LONG, 1)], &[32], &[0]), 3, Some(Size)),
+    ((&[], &[]), (&[], &[], &[]), 0, None),
+    ((&[], &[]), (&[], &[], &[0]), 16385, Some(Count)),
+    (PAIR, (&[("r", 2)], &[32, 1], &[0, 1]), 0, None),
     (
-        ([2, 2, 2], K, &[("k", 32)], &[0]),
-        R,
-        16385,
+        PAIR,
+        (&[("r", 2)], &[32, 1], &[0, 0]),
+        16387,
         Some(WrongType),
     ),
+    (PAIR, (&[("r", 2)], &[32, 1], &[0]), 16387, Some(Count)),
     (
-        ([2, 2, 2], K, &[("a", 32)], &[0]),
-        R,
-        16385,
-        Some(WrongType),
-    ),
-    (([2, 2, 2], K, &[("", 32)], &[0]), R, 16385, Some(WrongType)),
-    (
-        ([2, 2, 2], K, &[(TOO_LONG, 32)], &[0]),
-        R,
-        16385,
-        Some(Size),
-    ),
-    // the results
-    (([2, 2, 2], K, X, &[0]), (&[("x", 1)], &[32], &[0]), 0, None),
-    (
-        ([2, 2, 2], K, X, &[0]),
-        (&[("a", 1)], &[32], &[0]),
-        3,
-        Some(WrongType),
-    ),
-    (
-        ([2, 2, 2], K, X, &[0]),
-        (&[("r", 1)], &[8], &[0]),
-        3,
-        Some(WrongType),
-    ),
-    (
-        ([2, 2, 2], K, X, &[0]),
-        (&[("r", 2)], &[32], &[0]),
-        3,
-        Some(Count),
-    ),
-    (
-        ([2, 2, 2], K, X, &[0]),
-        (&[("r", 2)], &[32, 32], &[0, 0]),
-        3,
-        Some(Count),
-    ),
-    (([2, 2, 2], K, X, &[0]), (&[], &[], &[]), 3, Some(Count)),
-    (
-        ([2, 2, 2], K, X, &[0]),
-        (&[("r", 1)], &[32], &[]),
-        3,
-        Some(Count),
-    ),
-    (
-        ([2, 2, 2], K, X, &[0]),
-        (&[(TOO_LONG, 1)], &[32], &[0]),
-        3,
-        Some(Size),
-    ),
-    // no arguments, two, sixteen and seventeen
-    (([2, 2, 2], K, &[], &[]), (&[], &[], &[]), 0, None),
-    (
-        ([2, 2, 2], K, &[], &[]),
-        (&[], &[], &[0]),
-        16385,
-        Some(Count),
-    ),
-    (
-        ([2, 2, 2], K, &[("x", 32), ("y", 1)], &[0, 1]),
-        (&[("r", 2)], &[32, 1], &[0, 1]),
-        0,
-        None,
-    ),
-    (
-        ([2, 2, 2], K, &[("x", 32), ("x", 1)], &[0, 1]),
+        (&[("x", 32), ("x", 1)], &[0, 1]),
         (&[("r", 2)], &[32, 1], &[0, 1]),
         16386,
         Some(WrongType),
     ),
     (
-        ([2, 2, 2], K, &[("x", 32), ("y", 1)], &[0, 1]),
-        (&[("r", 2)], &[32, 1], &[0, 0]),
-        16387,
-        Some(WrongType),
-    ),
-    (
-        ([2, 2, 2], K, &[("x", 32), ("y", 1)], &[0, 1]),
-        (&[("r", 2)], &[32, 1], &[0]),
-        16387,
-        Some(Count),
-    ),
-    (
-        ([2, 2, 2], K, SIXTEEN_NAMES, SIXTEEN_USES),
+        (SIXTEEN_NAMES, SIXTEEN_USES),
         (&[("r", 16)], SIXTEEN_BITS, SIXTEEN_USES),
         0,
         None,
     ),
-    // the results break before the arguments
+    // the results are too many before the arguments are
     (
-        ([2, 2, 2], K, SEVENTEEN_NAMES, SEVENTEEN_USES),
+        (SEVENTEEN_NAMES, SEVENTEEN_USES),
         (&[("r", 17)], SEVENTEEN_BITS, SEVENTEEN_USES),
         3,
         Some(Size),
@@ -151,12 +107,13 @@ const HEADS: [(ForHead, Results, u32, Option<ShapeFault>); 44] = [
 ];
 
 #[test]
-fn headers_of_counted_loops(rt: HostRuntime) -> Result<(), Fail> {
+fn results_of_counted_loops(rt: HostRuntime) -> Result<(), Fail> {
     let alloc = rt.alloc();
-    for (head, (packs, bits, ends), at, fault) in HEADS {
+    for ((named, inits), (packs, bits, ends), at, fault) in RESULTS {
+        let head = ([2, 2, 2], K, named, inits);
         let kind = counted(alloc, head, Vec::new(alloc), ends)?;
         let f = one(alloc, packs, bits, kind, 0)?;
-        assert!(rt; gives(&f, at, fault), "{head:?} {packs:?} {ends:?}");
+        assert!(rt; gives(&f, at, fault), "{named:?} {packs:?} {ends:?}");
     }
     Ok(())
 }

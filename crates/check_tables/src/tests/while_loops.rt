@@ -9,151 +9,127 @@ use mlir_ir::ShapeFault::{self, Count, Size, Use, WrongType};
 use std::alloc::{AllocError, Global};
 use std::test::Fail;
 
-/// The packs and the bits of the results.
-type Results<'a> = (Named<'a>, &'a [u8]);
-
-const R: Results = (&[("r", 1)], &[32]);
-
 const X: Named = &[("x", 32)];
 
 const Y: Named = &[("y", 32)];
 
+/// The arguments, their first values, and the yields behind `do`.
+type Carried<'a> = (Named<'a>, &'a [u32], &'a [u32]);
+
 /// The counter is the label 16384, `%x` 16385 and `%y` 16386; nothing stands in the regions, so `%r` is 16387.
-const HEADS: [(WhileHead, Results, u32, Option<ShapeFault>); 35] = [
-    ((X, &[0], 1, &[0], Y, &[0]), R, 0, None),
-    ((&[], &[], 1, &[], &[], &[]), (&[], &[]), 0, None),
+const ARGUMENTS: [(Carried, u32, Option<ShapeFault>); 16] = [
+    ((X, &[0], &[0]), 0, None),
     // arguments and results need not have the same types
-    ((&[("x", 1)], &[1], 1, &[0], Y, &[1]), R, 0, None),
-    ((&[], &[], 1, &[0], Y, &[]), R, 0, None),
-    ((X, &[0], 1, &[], &[], &[0]), (&[], &[]), 0, None),
+    ((&[("x", 1)], &[1], &[1]), 0, None),
+    ((&[], &[], &[]), 0, None),
     // a loop's own variables and results aren't in scope in its header, and its counter is no value
-    ((X, &[9], 1, &[0], Y, &[0]), R, 3, Some(Use)),
-    ((X, &[16384], 1, &[0], Y, &[0]), R, 3, Some(Use)),
-    ((X, &[16385], 1, &[0], Y, &[0]), R, 3, Some(Use)),
-    ((X, &[16387], 1, &[0], Y, &[0]), R, 3, Some(Use)),
-    ((X, &[1], 1, &[0], Y, &[0]), R, 3, Some(WrongType)),
-    ((X, &[], 1, &[0], Y, &[0]), R, 3, Some(Count)),
-    ((X, &[0, 3], 1, &[0], Y, &[0]), R, 3, Some(Count)),
-    // the arguments
+    ((X, &[9], &[0]), 3, Some(Use)),
+    ((X, &[16384], &[0]), 3, Some(Use)),
+    ((X, &[16385], &[0]), 3, Some(Use)),
+    ((X, &[16387], &[0]), 3, Some(Use)),
+    ((X, &[1], &[0]), 3, Some(WrongType)),
+    ((X, &[], &[0]), 3, Some(Count)),
+    ((X, &[0, 3], &[0]), 3, Some(Count)),
+    ((&[("a", 32)], &[0], &[0]), 16384, Some(WrongType)),
+    ((&[("", 32)], &[0], &[0]), 16384, Some(WrongType)),
+    ((&[(TOO_LONG, 32)], &[0], &[0]), 16384, Some(Size)),
     (
-        (&[("a", 32)], &[0], 1, &[0], Y, &[0]),
-        R,
-        16384,
+        (&[("x", 32), ("x", 1)], &[0, 1], &[0, 1]),
+        16385,
         Some(WrongType),
     ),
+    ((SIXTEEN_NAMES, SIXTEEN_USES, SIXTEEN_USES), 0, None),
     (
-        (&[("", 32)], &[0], 1, &[0], Y, &[0]),
-        R,
-        16384,
-        Some(WrongType),
-    ),
-    (
-        (&[(TOO_LONG, 32)], &[0], 1, &[0], Y, &[0]),
-        R,
-        16384,
+        (SEVENTEEN_NAMES, SEVENTEEN_USES, SEVENTEEN_USES),
+        16400,
         Some(Size),
     ),
+];
+
+#[test]
+fn arguments_of_while_loops(rt: HostRuntime) -> Result<(), Fail> {
+    let alloc = rt.alloc();
+    for ((named, inits, ends), at, fault) in ARGUMENTS {
+        let head = (named, inits, 1, [0].as_slice(), Y, ends);
+        let kind = turning(alloc, head, Vec::new(alloc), Vec::new(alloc))?;
+        let f = one(alloc, &[("r", 1)], &[32], kind, 0)?;
+        assert!(rt; gives(&f, at, fault), "{named:?} {inits:?}");
+    }
+    Ok(())
+}
+
+/// The values that the condition passes, the parameters behind `do`, and the packs and the bits of the results.
+type Results<'a> = (&'a [u32], Named<'a>, Named<'a>, &'a [u8]);
+
+const RESULTS: [(Results, u32, Option<ShapeFault>); 19] = [
+    ((&[0], Y, &[("x", 1)], &[32]), 0, None),
+    ((&[0], Y, &[("y", 1)], &[32]), 0, None),
+    ((&[0], Y, &[("a", 1)], &[32]), 3, Some(WrongType)),
+    ((&[0], Y, &[(TOO_LONG, 1)], &[32]), 3, Some(Size)),
+    ((&[0], Y, &[("r", 2)], &[32]), 3, Some(Count)),
+    ((&[0], Y, &[("r", 2)], &[32, 32]), 3, Some(Count)),
+    ((&[0], Y, &[], &[]), 3, Some(Count)),
+    ((&[], &[], &[], &[]), 0, None),
     (
-        (&[("x", 32), ("x", 1)], &[0, 1], 1, &[0], Y, &[0, 1]),
-        R,
+        (
+            SEVENTEEN_USES,
+            SEVENTEEN_NAMES,
+            &[("r", 17)],
+            SEVENTEEN_BITS,
+        ),
+        3,
+        Some(Size),
+    ),
+    // the parameters
+    ((&[0], X, &[("r", 1)], &[32]), 0, None),
+    ((&[0], &[("r", 32)], &[("r", 1)], &[32]), 0, None),
+    (
+        (&[0], &[("a", 32)], &[("r", 1)], &[32]),
         16385,
         Some(WrongType),
     ),
     (
-        (SIXTEEN_NAMES, SIXTEEN_USES, 1, &[0], Y, SIXTEEN_USES),
-        R,
+        (&[0], &[("1y", 32)], &[("r", 1)], &[32]),
+        16385,
+        Some(WrongType),
+    ),
+    (
+        (&[0], &[("y", 8)], &[("r", 1)], &[32]),
+        16385,
+        Some(WrongType),
+    ),
+    (
+        (&[0], &[(TOO_LONG, 32)], &[("r", 1)], &[32]),
+        16385,
+        Some(Size),
+    ),
+    ((&[0], &[], &[("r", 1)], &[32]), 3, Some(Count)),
+    (
+        (&[0, 1], &[("y", 32), ("z", 1)], &[("r", 2)], &[32, 1]),
         0,
         None,
     ),
     (
-        (SEVENTEEN_NAMES, SEVENTEEN_USES, 1, &[0], Y, SEVENTEEN_USES),
-        R,
-        16400,
-        Some(Size),
-    ),
-    // the results
-    ((X, &[0], 1, &[0], Y, &[0]), (&[("x", 1)], &[32]), 0, None),
-    ((X, &[0], 1, &[0], Y, &[0]), (&[("y", 1)], &[32]), 0, None),
-    (
-        (X, &[0], 1, &[0], Y, &[0]),
-        (&[("a", 1)], &[32]),
-        3,
-        Some(WrongType),
-    ),
-    (
-        (X, &[0], 1, &[0], Y, &[0]),
-        (&[(TOO_LONG, 1)], &[32]),
-        3,
-        Some(Size),
-    ),
-    (
-        (X, &[0], 1, &[0], Y, &[0]),
-        (&[("r", 2)], &[32]),
-        3,
-        Some(Count),
-    ),
-    (
-        (X, &[0], 1, &[0], Y, &[0]),
-        (&[("r", 2)], &[32, 32]),
-        3,
-        Some(Count),
-    ),
-    ((X, &[0], 1, &[0], Y, &[0]), (&[], &[]), 3, Some(Count)),
-    (
-        (X, &[0], 1, SEVENTEEN_USES, SEVENTEEN_NAMES, &[0]),
-        (&[("r", 17)], SEVENTEEN_BITS),
-        3,
-        Some(Size),
-    ),
-    // the parameters behind `do`
-    ((X, &[0], 1, &[0], X, &[0]), R, 0, None),
-    ((X, &[0], 1, &[0], &[("r", 32)], &[0]), R, 0, None),
-    (
-        (X, &[0], 1, &[0], &[("a", 32)], &[0]),
-        R,
-        16385,
-        Some(WrongType),
-    ),
-    (
-        (X, &[0], 1, &[0], &[("1y", 32)], &[0]),
-        R,
-        16385,
-        Some(WrongType),
-    ),
-    (
-        (X, &[0], 1, &[0], &[("y", 8)], &[0]),
-        R,
-        16385,
-        Some(WrongType),
-    ),
-    (
-        (X, &[0], 1, &[0], &[(TOO_LONG, 32)], &[0]),
-        R,
-        16385,
-        Some(Size),
-    ),
-    ((X, &[0], 1, &[0], &[], &[0]), R, 3, Some(Count)),
-    (
-        (X, &[0], 1, &[0, 1], &[("y", 32), ("y", 1)], &[0]),
-        (&[("r", 2)], &[32, 1]),
+        (&[0, 1], &[("y", 32), ("y", 1)], &[("r", 2)], &[32, 1]),
         16386,
         Some(WrongType),
     ),
     (
-        (X, &[0], 1, &[0, 1], &[("y", 32), ("z", 32)], &[0]),
-        (&[("r", 2)], &[32, 1]),
+        (&[0, 1], &[("y", 32), ("z", 32)], &[("r", 2)], &[32, 1]),
         16386,
         Some(WrongType),
     ),
 ];
 
+/// The loop carries `%x`, and nothing stands in its regions.
 #[test]
-fn headers_of_while_loops(rt: HostRuntime) -> Result<(), Fail> {
+fn results_of_while_loops(rt: HostRuntime) -> Result<(), Fail> {
     let alloc = rt.alloc();
-    for (head, (packs, bits), at, fault) in HEADS {
+    for ((passed, params, packs, bits), at, fault) in RESULTS {
+        let head = (X, [0].as_slice(), 1, passed, params, [0].as_slice());
         let kind = turning(alloc, head, Vec::new(alloc), Vec::new(alloc))?;
         let f = one(alloc, packs, bits, kind, 0)?;
-        assert!(rt; gives(&f, at, fault), "{head:?} {packs:?}");
+        assert!(rt; gives(&f, at, fault), "{params:?} {packs:?}");
     }
     Ok(())
 }
