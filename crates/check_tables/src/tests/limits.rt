@@ -40,7 +40,7 @@ fn limits_of_operations(rt: HostRuntime) -> Result<(), Fail> {
 }
 
 /// A call with that number of results, in one pack that is named by a number.
-fn numbered(alloc: Global, number: u32, results: u8) -> Result<Op, AllocError> {
+fn numbered(alloc: Global, number: usize, results: u8) -> Result<Op, AllocError> {
     let name = number.to_string(alloc)?;
     let packs: Named = &[(name.as_str(), results)];
     let bits = SIXTEEN_BITS.get(..results as usize).unwrap_or(&[]);
@@ -71,7 +71,7 @@ fn add_items(
     is_empty: bool,
 ) -> Result<(), AllocError> {
     for _ in 0..count {
-        let number = items.len() as u32;
+        let number = items.len();
         let ops = if is_empty {
             Vec::new(alloc)
         } else {
