@@ -173,8 +173,8 @@ fn mul_places(
     requires narrow_right { NarrowAll (polynomials qs.now) }
     ensures { IfOk result (λ r. IsProductIn (2 ^ w) (variable_of counter var.0) (polynomial_of r) (polynomials ps.now) (polynomials qs.now)) }
 {
-    if counter && are_numbers(ps) && are_numbers(qs) {
-        let places = mul_chains(alloc, w, ps, qs)?;
+    if are_numbers(ps) && are_numbers(qs) {
+        let places = mul_chains(alloc, w, counter, ps, qs)?;
         return Ok(build(counter, var, places));
     }
     let mut out = zeros(alloc, ps.len() + qs.len())?;

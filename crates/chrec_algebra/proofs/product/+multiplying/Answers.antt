@@ -6,7 +6,7 @@ use Rattle.scev_tree.proofs.Rows.{len_is, polynomial_of_num}
 use Rattle.scev_tree.proofs.Places.{canon_of, under_of, lighter}
 use Rattle.chrec_algebra.proofs.Parts.{num_product, product_of_sides, rows_first, rows_step, row_first, row_step, product_built, narrow_of}
 use Rattle.chrec_algebra.proofs.Factors.{scaled_left, scaled_right}
-use Rattle.chrec_algebra.proofs.NumberChains.{products_built, even_of}
+use Rattle.chrec_algebra.proofs.NumberChains.{products_built, parity_of}
 use Rattle.chrec_algebra.proofs.product.+multiplying.Goals as goal
 
 pub mul_trees-returns-in-Num : goal.mul_trees-returns-in-Num
@@ -68,7 +68,7 @@ mul_places-returns t c = product_built (2 ^ c.args.w) _ c.loop-i.i _ (polynomial
 
 pub mul_places-returns-then-are_numbers-2 : goal.mul_places-returns-then-are_numbers-2
 mul_places-returns-then-are_numbers-2 t c =
-    let prods = c.in_ok-places.ensures (variable_of c.args.counter c.args.var.0) (even_of c.args.counter c.args.var.0 c.if-counter.true) in
+    let prods = c.in_ok-places.ensures (variable_of c.args.counter c.args.var.0) (parity_of c.args.counter c.args.var.0) in
     products_built (2 ^ c.args.w) _ _ (polynomials c.in_ok-places.places.items) _ _ (pow_pos c.args.w) c.requires.left c.requires.right prods (c.build.ensures (2 ^ c.args.w) (pow_pos c.args.w) prods.canon)
 
 pub mul_row-loop-j-init : goal.mul_row-loop-j-init
