@@ -3,10 +3,9 @@ use Rattle.std.proofs.Common.{◌≡◌, ℕ, zero, suc, ◌+◌, ◌*◌, ◌%�
 use Rattle.std.proofs.lemmas.Bool.{eq-eqb, ne_eqb, cases_order, cases_lt, cases_eq}
 use Rattle.std.proofs.Math.Nat.{mod-eq_of_lt}
 use Rattle.arith_word.specs.declared.label.Label.{Label}
-use Rattle.scev_tree.specs.declared.tree.Tree.{Tree, Num, Ext}
-use Rattle.scev_tree.specs.Polynomial.{Polynomial, Polynomials, num, ext, Power, coefficient, place, IsMonomial, Under, IsCanonical, AreCanonical, IsNonzero, IsScaled, IsBuilt, variable_of}
-use Rattle.scev_tree.specs.Tree.{polynomials, polynomial_of, EndsZero, Tidy, IsTrimmed}
-use Rattle.scev_tree.proofs.Rows.{len_is}
+use Rattle.scev_tree.specs.declared.tree.Tree.{Tree, Ext}
+use Rattle.scev_tree.specs.Polynomial.{Polynomial, Polynomials, num, ext, Power, coefficient, place, IsMonomial, IsCanonical, AreCanonical, IsNonzero, IsScaled, IsBuilt, variable_of}
+use Rattle.scev_tree.specs.Tree.{polynomials, polynomial_of, EndsZero, Tidy}
 use Rattle.scev_tree.proofs.Ends.{snoc_below, snoc_last, canon_snoc, past_list, trim_first, trim_last, build_from, build_one}
 use Rattle.scev_tree.proofs.Places.{fits_place, place_of, canon_of, under_of}
 use Rattle.chrec_algebra.specs.Align.{IsSide}

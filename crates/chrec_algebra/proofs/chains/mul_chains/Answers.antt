@@ -1,6 +1,5 @@
 use Rattle.std.proofs.Common.{arith}
 use Rattle.std.proofs.lemmas.Nat.{pow_pos}
-use Rattle.scev_tree.specs.Tree.{polynomials}
 use Rattle.chrec_algebra.proofs.NumberChains.{first_push, chains_are}
 use Rattle.chrec_algebra.proofs.chains.mul_chains.Goals as goal
 

@@ -1,7 +1,5 @@
-use Rattle.std.proofs.Common.{arith, refl, length, ◌<◌, sym, ap, ◌∙◌, get_or}
+use Rattle.std.proofs.Common.{arith}
 use Rattle.std.proofs.lemmas.Nat.{pow_pos}
-use Rattle.scev_tree.proofs.Places.{canon_of}
-use Rattle.chrec_algebra.proofs.Parts.{put_is}
 use Rattle.chrec_algebra.proofs.InPlace.{push_is, put_at, canon_there}
 use Rattle.chrec_algebra.proofs.onto.add_to_place.Goals as goal
 
