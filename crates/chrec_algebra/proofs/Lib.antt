@@ -10,3 +10,7 @@ pub mod Binomials
 pub mod Differences
 pub mod Valuing
 pub mod Entering
+pub mod Factors
+pub mod NumberChains
+pub mod TableOfBinomials
+pub mod InPlace

@@ -4,3 +4,5 @@ pub mod Align
 pub mod Place
 pub mod Limits
 pub mod Entries
+pub mod Numbers
+pub mod Onto

@@ -5,8 +5,11 @@
 
 mod align;
 mod calls;
+mod chains;
+mod coefficients;
 mod laws;
 mod limits;
+mod onto;
 mod product;
 mod replace;
 mod sum;

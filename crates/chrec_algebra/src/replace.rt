@@ -4,7 +4,7 @@ ghost use Rattle.chrec_algebra.specs.Product.{Narrow, NarrowAll};
 ghost use Rattle.scev_tree.specs.Polynomial.{IsCanonical, AreCanonical, variable_of};
 ghost use Rattle.scev_tree.specs.Tree.{polynomial_of, polynomials, Each};
 
-use crate::sum::add_multiple;
+use crate::onto::add_onto;
 use arith_word::{Label, Width};
 use scev_binom::choose;
 use scev_tree::{Tree, build, copy_tree, rank};
@@ -61,7 +61,7 @@ fn combine(alloc: Global, w: Width, place: Label, ts: &[Tree], n: u64) -> Result
     let mut sum = Tree::Num(0);
     for (k, t) in ts.iter().enumerate() {
         let c = choose(w, n, k as u32);
-        sum = add_multiple(alloc, w, &sum, c, t)?;
+        sum = add_onto(alloc, w, sum, c, t)?;
     }
     Ok(sum)
 }

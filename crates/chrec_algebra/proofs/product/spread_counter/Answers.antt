@@ -12,7 +12,7 @@ pub put-requires-clause-places : goal.put-requires-clause-places
 put-requires-clause-places c = (variable_of true c.args.var.0, c.loop-k.invariant.1.canon)
 
 pub loop-k-preserved : goal.loop-k-preserved
-loop-k-preserved c = (omega (arith, c.in_ok-put.ensures.count, c.loop-k.invariant.0), spread_step _ _ c.args.i c.args.j c.loop-k.k c.product_coeff-c.result _ _ (polynomials c.loop-k.out.items) _ c.requires.tree c.requires.under (even_key c.args.var.0) c.product_coeff-c.ensures.pascal c.loop-k.invariant.1 c.in_ok-put.ensures.put)
+loop-k-preserved c = (omega (arith, c.in_ok-put.ensures.count, c.loop-k.invariant.0), spread_step _ _ c.args.i c.args.j c.loop-k.k c.coefficient-c.result _ _ (polynomials c.loop-k.out.items) _ c.requires.tree c.requires.under (even_key c.args.var.0) c.coefficient-c.ensures c.loop-k.invariant.1 c.in_ok-put.ensures.put)
 
 pub returns-clause-spread : goal.returns-clause-spread
 returns-clause-spread c = spread_end _ _ c.args.i c.args.j c.loop-k.k _ _ _ (pow_pos c.args.w) c.requires.places (omega arith) c.loop-k.invariant.1

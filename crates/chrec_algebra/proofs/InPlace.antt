@@ -1,0 +1,131 @@
+-- multiples that are added to places
+use Rattle.std.proofs.Common.{◌≡◌, ℕ, zero, suc, ◌+◌, ◌*◌, ◌%◌, ◌<◌, ◌≤◌, inl, inr, List, [], ◌∷◌, ◌++◌, refl, ap, ◌∙◌, sym, subst, arith, length, length-append, get_or, Bool}
+use Rattle.std.proofs.lemmas.Bool.{eq-eqb, ne_eqb, cases_order, cases_lt, cases_eq}
+use Rattle.std.proofs.Math.Nat.{mod-eq_of_lt}
+use Rattle.arith_word.specs.declared.label.Label.{Label}
+use Rattle.scev_tree.specs.declared.tree.Tree.{Tree, Ext}
+use Rattle.scev_tree.specs.Polynomial.{Polynomial, Polynomials, num, ext, Power, coefficient, place, IsMonomial, IsCanonical, AreCanonical, IsNonzero, IsScaled, IsBuilt, variable_of}
+use Rattle.scev_tree.specs.Tree.{polynomials, polynomial_of, EndsZero, Tidy}
+use Rattle.scev_tree.proofs.Ends.{snoc_below, snoc_last, canon_snoc, past_list, trim_first, trim_last, build_from, build_one}
+use Rattle.scev_tree.proofs.Places.{fits_place, place_of, canon_of, under_of}
+use Rattle.chrec_algebra.specs.Align.{IsSide}
+use Rattle.chrec_algebra.specs.Product.{IsAdded, IsPut}
+use Rattle.chrec_algebra.specs.Onto.{AreAdded}
+use Rattle.std.proofs.Math.ListN.{set}
+use Rattle.chrec_algebra.proofs.Parts.{put_is}
+
+-- ---- the tree of the places
+
+place_coeff : (x : ℕ) (ps qs : Polynomials) → ((j : ℕ) (m : List Power) → place ps j m ≡ place qs j m) → (m : List Power) → coefficient (ext x ps) m ≡ coefficient (ext x qs) m
+place_coeff x ps qs h [] = h 0 []
+place_coeff x ps qs h (q ∷ m) = elim (cases_order q.var x) [ inl e ↦ rw (eq-eqb q.var x e) (h q.exp m) | inr ne ↦ rw (ne_eqb q.var x (λ e. elim ne [ inl l ↦ omega arith | inr g ↦ omega arith ])) (h 0 (q ∷ m)) ]
+
+ends : (ts : List Tree) (t : Tree) → polynomial_of t ≡ num 0 → EndsZero (polynomials (ts ++ t ∷ []))
+ends [] t z = z
+ends (u ∷ []) t z = z
+ends (u ∷ v ∷ ts) t z = ends (v ∷ ts) t z
+
+nonzero : (p : Polynomial) → (p ≡ num 0 → ⊥) → IsNonzero p
+nonzero (num v) ne = elim (cases_lt 0 v) [ inl l ↦ l | inr g ↦ (let e : v ≡ 0 = omega arith in absurd (ne (ap num e))) ]
+nonzero (ext x ps) ne = tt
+
+tidy : (ts : List Tree) (t : Tree) → (polynomial_of t ≡ num 0 → ⊥) → Tidy (polynomials (ts ++ t ∷ []))
+tidy [] t z = nonzero (polynomial_of t) z
+tidy (u ∷ []) t z = nonzero (polynomial_of t) z
+tidy (u ∷ v ∷ ts) t z = tidy (v ∷ ts) t z
+
+pub without_zero : (M x : ℕ) (us ts : List Tree) (t : Tree) (r : Polynomial) → us ≡ ts ++ t ∷ [] → polynomial_of t ≡ num 0 → (AreCanonical M (polynomials ts) x → IsBuilt M x (polynomials ts) r) → AreCanonical M (polynomials us) x → IsBuilt M x (polynomials us) r
+without_zero M x us ts t r e z built c =
+    let z' : EndsZero (polynomials us) = subst (λ (vs : List Tree). EndsZero (polynomials vs)) (sym e) (ends ts t z) in
+    let s = trim_last (polynomials us) us ts t (trim_first (polynomials us)) e z' in
+    let b = built (s.canon M x c) in
+    record { canon = b.canon; under = b.under; at = λ m top is. b.at m top is ∙ place_coeff x (polynomials ts) (polynomials us) s.at m }
+
+pub alone : (M x : ℕ) (us ts : List Tree) (t : Tree) → us ≡ ts ++ t ∷ [] → ts ≡ [] → AreCanonical M (polynomials us) x → IsBuilt M x (polynomials us) (polynomial_of t)
+alone M x us ts t e n c = build_one M x (polynomials us) us t (e ∙ ap (λ (vs : List Tree). vs ++ t ∷ []) n) (trim_first (polynomials us)) c
+
+some_length : (ts : List Tree) → (ts ≡ [] → ⊥) → 0 < length ts
+some_length [] ne = absurd (ne refl)
+some_length (t ∷ ts) ne = omega arith
+
+pub together : (M : ℕ) (c : Bool) (x : Label) (us ts vs : List Tree) (t : Tree) → us ≡ ts ++ t ∷ [] → vs ≡ ts ++ t ∷ [] → (ts ≡ [] → ⊥) → (polynomial_of t ≡ num 0 → ⊥) → AreCanonical M (polynomials us) (variable_of c x.0) → IsBuilt M (variable_of c x.0) (polynomials us) (polynomial_of (Ext c x vs))
+together M c x us ts vs t e f ne nz d =
+    let l : 1 < length us = subst (λ (ws : List Tree). 1 < length ws) (sym e) (omega (arith, length-append ts (t ∷ []), some_length ts ne)) in
+    let s : Tidy (polynomials us) = subst (λ (ws : List Tree). Tidy (polynomials ws)) (sym e) (tidy ts t nz) in
+    build_from M c x (polynomials us) vs us (f ∙ sym e) l (trim_first (polynomials us)) s d
+
+-- ---- one place
+
+pub push_is : (M k c : ℕ) (ts us : List Tree) (r : Tree) (t : Polynomial) → 0 < M → k ≡ length ts → us ≡ ts ++ r ∷ [] → IsScaled M c (polynomial_of r) t → IsPut M k c t (polynomials ts) (polynomials us)
+push_is M k c ts us r t some l e s = rw e (record {
+  canon = λ y ct dt ut. canon_snoc M y ts r ct (s.under y ut) s.canon;
+  here = λ m top is. snoc_last ts r k m l ∙ (s.at m top is ∙ (let z = past_list ts k m (omega arith) in let h : c * coefficient t m ≡ place (polynomials ts) k m + c * coefficient t m = omega arith in ap (λ n. n % M) h));
+  other = λ j m ne. elim (cases_lt j (length ts)) [
+    | inl lt ↦ snoc_below ts r j m lt
+    | inr ge ↦ past_list (ts ++ r ∷ []) j m (omega (arith, length-append ts (r ∷ []), l, ne_less j k ne)) ∙ sym (past_list ts j m ge)
+  ];
+})
+  where
+    ne_less : (j k : ℕ) → (j ≡ k → ⊥) → k ≤ j → k < j
+    ne_less j k ne le = elim (cases_lt k j) [ inl l ↦ l | inr g ↦ absurd (ne (omega arith)) ]
+
+pub canon_there : (M x : ℕ) (ts vs : List Tree) (k : ℕ) (o : Tree) → vs ≡ ts → o ≡ get_or vs k o → AreCanonical M (polynomials ts) x → k < length ts → IsCanonical M (polynomial_of o)
+canon_there M x ts vs k o e eo c lt = canon_of M x ts k o (eo ∙ ap (λ (us : List Tree). get_or us k o) e) c lt
+
+pub put_at : (M k c : ℕ) (ts vs us : List Tree) (o r : Tree) (t : Polynomial) → k < length ts → vs ≡ ts → o ≡ get_or vs k o → us ≡ set ts k r → IsAdded M c (polynomial_of r) (polynomial_of o) t → IsPut M k c t (polynomials ts) (polynomials us)
+put_at M k c ts vs us o r t lt e eo es a = put_is M k c ts us o r t lt (eo ∙ ap (λ (ws : List Tree). get_or ws k o) e) es a
+
+set_twice : (ts : List Tree) (k : ℕ) (a b : Tree) → set (set ts k a) k b ≡ set ts k b
+set_twice [] k a b = refl
+set_twice (t ∷ ts) zero a b = refl
+set_twice (t ∷ ts) (suc k) a b = ap (λ (us : List Tree). t ∷ us) (set_twice ts k a b)
+
+-- the place is emptied, and then takes what its tree became
+pub put_after : (M k c : ℕ) (ts us vs : List Tree) (o p z r : Tree) (t : Polynomial) → k < length ts → o ≡ get_or ts k o → p ≡ o → us ≡ set ts k z → vs ≡ set us k r → IsAdded M c (polynomial_of r) (polynomial_of p) t → IsPut M k c t (polynomials ts) (polynomials vs)
+put_after M k c ts us vs o p z r t lt eo ep eu ev a = put_is M k c ts vs o r t lt eo (ev ∙ (ap (λ (ws : List Tree). set ws k r) eu ∙ set_twice ts k z r)) (subst (λ (u : Tree). IsAdded M c (polynomial_of r) (polynomial_of u) t) ep a)
+
+pub canon_taken : (M x : ℕ) (ts : List Tree) (k : ℕ) (o p : Tree) → o ≡ get_or ts k o → p ≡ o → AreCanonical M (polynomials ts) x → k < length ts → IsCanonical M (polynomial_of p)
+canon_taken M x ts k o p eo ep c lt = subst (λ (u : Tree). IsCanonical M (polynomial_of u)) (sym ep) (canon_of M x ts k o eo c lt)
+
+-- ---- all places
+
+pub added_first : (M c : ℕ) (ts old : Polynomials) → AreAdded M c 0 ts old old
+added_first M c ts old = record { canon = λ x co ct. co; below = λ k m top lt is. absurd (omega arith); rest = λ k m le. refl }
+
+pub added_step : (M c k : ℕ) (ts : List Tree) (t : Tree) (old mid new : Polynomials) → k < length ts → t ≡ get_or ts k t → AreAdded M c k (polynomials ts) old mid → IsPut M k c (polynomial_of t) mid new → AreAdded M c (k + 1) (polynomials ts) old new
+added_step M c k ts t old mid new lt e a p = record {
+  canon = λ x co ct. p.canon x (a.canon x co ct) (canon_of M x ts k t e ct lt) (under_of M x ts k t e ct lt);
+  below = λ j m top lj is. elim (cases_eq j k) [
+    | inl eq ↦ (let P : ℕ → Type 0 = λ z. place new z m ≡ (place old z m + c * place (polynomials ts) z m) % M in
+        subst P (sym eq) (p.here m top is ∙ (ap (λ z. (z + c * coefficient (polynomial_of t) m) % M) (a.rest k m (omega arith)) ∙ ap (λ z. (place old k m + c * z) % M) (sym (place_of ts k t m e lt)))))
+    | inr ne ↦ p.other j m ne ∙ a.below j m top (omega arith) is
+  ];
+  rest = λ j m le. p.other j m (λ e. omega arith) ∙ a.rest j m (omega arith);
+}
+
+none_added : (M a b : ℕ) → a < M → b ≡ 0 → a ≡ (a + b) % M
+none_added M a b lt e = let h : a + b ≡ a = omega arith in sym (ap (λ n. n % M) h ∙ mod-eq_of_lt lt)
+
+times_zero : (a b : ℕ) → b ≡ 0 → a * b ≡ 0
+times_zero a b e = ap (λ x. a * x) e ∙ omega arith
+
+all_added : (M c x : ℕ) (ts : List Tree) (old new : Polynomials) → 0 < M → AreCanonical M old x → AreAdded M c (length ts) (polynomials ts) old new → (k : ℕ) (m : List Power) (top : ℕ) → IsMonomial m top → place new k m ≡ (place old k m + c * place (polynomials ts) k m) % M
+all_added M c x ts old new some co a k m top is = elim (cases_lt k (length ts)) [
+  | inl lt ↦ a.below k m top lt is
+  | inr ge ↦ a.rest k m ge ∙ none_added M (place old k m) _ (fits_place M old k m x some co) (times_zero c _ (past_list ts k m ge))
+]
+
+ext_added : (M c x : ℕ) (new old ts : Polynomials) → ((k : ℕ) (m : List Power) (top : ℕ) → IsMonomial m top → place new k m ≡ (place old k m + c * place ts k m) % M) → (m : List Power) (top : ℕ) → IsMonomial m top → coefficient (ext x new) m ≡ (coefficient (ext x old) m + c * coefficient (ext x ts) m) % M
+ext_added M c x new old ts h [] top is = h 0 [] top is
+ext_added M c x new old ts h (w ∷ m) top is =
+    elim (cases_order w.var x) [
+      | inl e ↦ rw (eq-eqb w.var x e) (h w.exp m w.var is.2)
+      | inr ne ↦ rw (ne_eqb w.var x (λ e. elim ne [ inl l ↦ omega arith | inr g ↦ omega arith ])) (h 0 (w ∷ m) top is)
+    ]
+
+pub added_built : (M c x : ℕ) (ts : List Tree) (old new : Polynomials) (r t : Polynomial) → 0 < M → AreCanonical M old x → IsCanonical M t → IsSide x (polynomials ts) t → AreAdded M c (length ts) (polynomials ts) old new → IsBuilt M x new r → IsAdded M c r (ext x old) t
+added_built M c x ts old new r t some co ct s a b = record {
+  canon = b.canon;
+  under = λ y uo ut. b.under y uo;
+  at = λ m top is. b.at m top is ∙ (ext_added M c x new old (polynomials ts) (all_added M c x ts old new some co a) m top is ∙ ap (λ z. (coefficient (ext x old) m + c * z) % M) (s.at M ct m top is));
+}

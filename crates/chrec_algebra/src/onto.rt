@@ -1,0 +1,131 @@
+ghost use Rattle.std.specs.Prelude.{◌≡◌, ℕ, ◌<◌, ◌≤◌, ◌^◌, IfOk, IfSome, length};
+ghost use Rattle.chrec_algebra.specs.Align.{IsSide};
+ghost use Rattle.chrec_algebra.specs.Product.{IsAdded, IsPut};
+ghost use Rattle.chrec_algebra.specs.Onto.{AreAdded};
+ghost use Rattle.scev_tree.specs.Polynomial.{Polynomial, ext, IsCanonical, AreCanonical, IsBuilt, variable_of};
+ghost use Rattle.scev_tree.specs.Tree.{polynomial_of, polynomials};
+
+use crate::sum::add_multiple;
+use arith_word::{Label, Width};
+use scev_tree::{Tree, is_zero, rank, scale_tree};
+use sqlite_items::Items;
+use std::alloc::{AllocError, Global};
+use std::slice;
+
+// The canonical tree of the polynomial in this variable with these places.
+fn rebuild(counter: bool, var: Label, mut ops: Items<Tree>) -> Result<Tree, AllocError>
+    ensures { IfOk result (λ r. (M : ℕ) → 0 < M → AreCanonical M (polynomials ops) (variable_of counter var.0) → IsBuilt M (variable_of counter var.0) (polynomials ops) (polynomial_of r)) }
+{
+    match ops.pop() {
+        None => Ok(Tree::Num(0)),
+        Some(last) => {
+            if is_zero(&last) {
+                return Ok(rebuild(counter, var, ops)?);
+            }
+            if ops.is_empty() {
+                return Ok(last);
+            }
+            ops.push(last)?;
+            Ok(Tree::Ext { counter, var, ops })
+        }
+    }
+}
+
+// The places of a tree as one in this variable; none where it has a greater one.
+#[tactic(auto, using(crate::proofs::Sides::polynomial_of_ext, crate::proofs::Sides::polynomial_of_num))]
+fn places_in<'a>(counter: bool, var: Label, t: &'a Tree) -> Option<&'a [Tree]>
+    ensures { IfSome result (λ ts. IsSide (variable_of counter var.0) (polynomials ts.now) (polynomial_of t.now)) }
+{
+    match t {
+        Tree::Num(_) => Some(slice::from_ref(t)),
+        Tree::Ext {
+            counter: other,
+            var: to,
+            ops,
+        } => {
+            if rank(*other, *to) < rank(counter, var) {
+                Some(slice::from_ref(t))
+            } else if rank(counter, var) < rank(*other, *to) {
+                None
+            } else {
+                Some(ops.as_slice())
+            }
+        }
+    }
+}
+
+// Adds c * t to the place k, which is one of the places or the next.
+fn add_to_place(
+    alloc: Global,
+    w: Width,
+    ops: &mut Items<Tree>,
+    k: usize,
+    c: u64,
+    t: &Tree,
+) -> Result<(), AllocError>
+    requires within { k ≤ length ops.old }
+    requires places { (x : ℕ) × AreCanonical (2 ^ w) (polynomials ops.old) x }
+    requires tree { IsCanonical (2 ^ w) (polynomial_of t.now) }
+    ensures put { IfOk result (λ _. IsPut (2 ^ w) k c (polynomial_of t.now) (polynomials ops.old) (polynomials ops.new)) }
+    ensures count { IfOk result (λ _. k < length ops.new) }
+{
+    if k < ops.len() {
+        let sum = add_multiple(alloc, w, &ops.as_slice()[k], c, t)?;
+        ops.set(k, sum);
+    } else {
+        let more = scale_tree(alloc, w, t, c)?;
+        ops.push(more)?;
+    }
+    Ok(())
+}
+
+// Adds c times the places `ts` to the places.
+fn add_to_places(
+    alloc: Global,
+    w: Width,
+    ops: &mut Items<Tree>,
+    c: u64,
+    ts: &[Tree],
+) -> Result<(), AllocError>
+    requires { (x : ℕ) × AreCanonical (2 ^ w) (polynomials ops.old) x × AreCanonical (2 ^ w) (polynomials ts.now) x }
+    ensures { IfOk result (λ _. AreAdded (2 ^ w) c (length ts.now) (polynomials ts.now) (polynomials ops.old) (polynomials ops.new)) }
+{
+    for (k, t) in ts.iter().enumerate() {
+        add_to_place(alloc, w, ops, k, c, t)?;
+    }
+    Ok(())
+}
+
+fn add_in_places(
+    alloc: Global,
+    w: Width,
+    counter: bool,
+    var: Label,
+    mut ops: Items<Tree>,
+    c: u64,
+    ts: &[Tree],
+) -> Result<Tree, AllocError>
+    requires places { AreCanonical (2 ^ w) (polynomials ops) (variable_of counter var.0) }
+    requires more { AreCanonical (2 ^ w) (polynomials ts.now) (variable_of counter var.0) }
+    ensures { IfOk result (λ r. (t : Polynomial) → IsCanonical (2 ^ w) t → IsSide (variable_of counter var.0) (polynomials ts.now) t → IsAdded (2 ^ w) c (polynomial_of r) (ext (variable_of counter var.0) (polynomials ops)) t) }
+{
+    add_to_places(alloc, w, &mut ops, c, ts)?;
+    Ok(rebuild(counter, var, ops)?)
+}
+
+/// `old + c * t` modulo 2 to the width, in the memory of `old` where its variable isn't below that
+/// of t.
+#[tactic(auto, using(crate::proofs::Sides::polynomial_of_ext, crate::proofs::Sides::polynomial_of_num))]
+pub fn add_onto(alloc: Global, w: Width, old: Tree, c: u64, t: &Tree) -> Result<Tree, AllocError>
+    requires old { IsCanonical (2 ^ w) (polynomial_of old) }
+    requires tree { IsCanonical (2 ^ w) (polynomial_of t.now) }
+    ensures { IfOk result (λ r. IsAdded (2 ^ w) c (polynomial_of r) (polynomial_of old) (polynomial_of t.now)) }
+{
+    match old {
+        Tree::Num(u) => Ok(add_multiple(alloc, w, &Tree::Num(u), c, t)?),
+        Tree::Ext { counter, var, ops } => match places_in(counter, var, t) {
+            Some(ts) => Ok(add_in_places(alloc, w, counter, var, ops, c, ts)?),
+            None => Ok(add_multiple(alloc, w, &Tree::Ext { counter, var, ops }, c, t)?),
+        },
+    }
+}
