@@ -1,4 +1,4 @@
-ghost use Rattle.std.specs.Prelude.{◌≡◌, ℕ, true, false, ◌%◌, ◌≤◌, ◌^◌, IfOk, [], length};
+ghost use Rattle.std.specs.Prelude.{◌≡◌, ℕ, true, false, IsTrue, ◌↔◌, ◌%◌, ◌≤◌, ◌^◌, IfOk, [], length};
 ghost use Rattle.chrec_algebra.specs.Product.{AreProducts};
 ghost use Rattle.chrec_algebra.specs.Numbers.{IsNumber, AreNumbers, product_place, product_row};
 ghost use Rattle.scev_tree.specs.Polynomial.{coefficient, variable_of};
@@ -11,7 +11,7 @@ use std::alloc::{AllocError, Global};
 
 #[tactic(auto, using(crate::proofs::Sides::polynomial_of_ext, crate::proofs::Sides::polynomial_of_num))]
 fn is_number(t: &Tree) -> bool
-    ensures { result ≡ true → IsNumber (polynomial_of t.now) }
+    ensures { IsTrue result ↔ IsNumber (polynomial_of t.now) }
 {
     match t {
         Tree::Num(_) => true,
@@ -21,7 +21,7 @@ fn is_number(t: &Tree) -> bool
 
 /// Whether all trees are numbers.
 pub fn are_numbers(ts: &[Tree]) -> bool
-    ensures { result ≡ true → AreNumbers (polynomials ts.now) }
+    ensures { IsTrue result ↔ AreNumbers (polynomials ts.now) }
 {
     for t in ts {
         if !is_number(t) {
