@@ -26,7 +26,7 @@ WIDTH = 32
 
 
 def chain(lines):
-    """The operations, each with its operand's factor of the argument after it."""
+    """The operations, and the factor of the argument in the last value."""
     factor, ops = 1, []
     for k in range(lines):
         op = ("add", "mul", "sub")[k % 3]
@@ -35,24 +35,26 @@ def chain(lines):
     return ops, factor
 
 
-def mlir(ops):
-    lines = [f"func.func @f(%a: i{WIDTH}) -> i{WIDTH} {{", f"  %c = arith.constant 3 : i{WIDTH}"]
-    value = "%a"
+def operations(ops, three, line):
+    """The lines of the operations, and the name of the last value; `three` stands for the number 3."""
+    lines, value = [], "%a"
     for k, op in enumerate(ops):
-        other = "%c" if op == "mul" else "%a"
-        lines.append(f"  %{k} = arith.{op}i {value}, {other} : i{WIDTH}")
-        value = f"%{k}"
-    return "\n".join([*lines, f"  return {value} : i{WIDTH}", "}", ""])
+        right = three if op == "mul" else "%a"
+        lines.append(f"  %v{k} = " + line.format(op=op, left=value, right=right, width=WIDTH))
+        value = f"%v{k}"
+    return lines, value
+
+
+def mlir(ops):
+    lines, last = operations(ops, "%c", "arith.{op}i {left}, {right} : i{width}")
+    head = [f"func.func @f(%a: i{WIDTH}) -> i{WIDTH} {{", f"  %c = arith.constant 3 : i{WIDTH}"]
+    return "\n".join([*head, *lines, f"  return {last} : i{WIDTH}", "}", ""])
 
 
 def llvm(ops):
-    lines = [f"define i{WIDTH} @f(i{WIDTH} %a) {{"]
-    value = "%a"
-    for k, op in enumerate(ops):
-        other = "3" if op == "mul" else "%a"
-        lines.append(f"  %v{k} = {op} i{WIDTH} {value}, {other}")
-        value = f"%v{k}"
-    return "\n".join([*lines, f"  ret i{WIDTH} {value}", "}", ""])
+    lines, last = operations(ops, "3", "{op} i{width} {left}, {right}")
+    head = [f"define i{WIDTH} @f(i{WIDTH} %a) {{"]
+    return "\n".join([*head, *lines, f"  ret i{WIDTH} {last}", "}", ""])
 
 
 def expected(factor):
@@ -67,7 +69,7 @@ def tool(*names):
 
 def commands(ops):
     """Each tool with its command and its input."""
-    script = f"== session A\nscev @f %{len(ops) - 1}\n"
+    script = f"== session A\nscev @f %v{len(ops) - 1}\n"
     found = {"scevd": ([str(TOP / "crates/scevd/out/scevd")], mlir(ops) + script)}
     if mlir_opt := tool("mlir-opt", "mlir-opt-15"):
         found["mlir-opt"] = ([mlir_opt, "--canonicalize"], mlir(ops))
