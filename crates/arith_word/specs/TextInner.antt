@@ -10,5 +10,5 @@ inner_bytes (Long text) = string_bytes text
 
 -- an inner value that a `Text` may hold
 abbrev pub IsValidInner : Inner → Type 0
-IsValidInner (Short bytes len) = (len ≤ 22) × IsUtf8 (take len bytes)
+IsValidInner (Short bytes len) = (len ≤ 30) × IsUtf8 (take len bytes)
 IsValidInner (Long text) = ⊤

@@ -5,10 +5,10 @@ use std::alloc::{AllocError, Global};
 use std::marker::Model;
 use std::{fmt, str};
 
-// The longest text that is kept with no allocation.
-const MAX_SHORT: usize = 22;
+// The longest text that lies in the value itself.
+const MAX_SHORT: usize = 30;
 
-/// A text that contracts see as its bytes. One of at most 22 bytes allocates nothing.
+/// A text that contracts see as its bytes. `from_bytes` keeps up to 30 of them with no allocation.
 #[derive(Drop)]
 pub struct Text {
     inner: Inner,
@@ -56,9 +56,9 @@ impl Text {
         }))
     }
 
-    // The text, kept with no allocation.
+    // The text, in the value itself.
     fn short(text: &str) -> Text
-        requires { length text.now ≤ 22 }
+        requires { length text.now ≤ 30 }
         ensures { result ≡ text.now }
     {
         let mut bytes = [0; MAX_SHORT];
