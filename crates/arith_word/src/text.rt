@@ -1,22 +1,36 @@
-ghost use Rattle.std.specs.Prelude.{◌≡◌, IfOk, MatchOption, IsUtf8, string_bytes, Some};
+ghost use Rattle.std.specs.Prelude.{◌≡◌, ◌≤◌, IfOk, MatchOption, IsUtf8, length, string_bytes, Some};
 
+use Inner::*;
 use std::alloc::{AllocError, Global};
-use std::fmt;
 use std::marker::Model;
+use std::{fmt, str};
 
-/// A `String` that contracts see as its bytes.
-#[derive(Debug, Drop)]
+// The longest text that lies in the value itself.
+const MAX_SHORT: usize = 30;
+
+/// A text that contracts see as its bytes. `from_bytes` keeps up to 30 of them with no allocation.
+#[derive(Drop)]
 pub struct Text {
-    inner: String,
+    inner: Inner,
+}
+
+#[derive(Drop)]
+enum Inner {
+    // The bytes, of which the first so many are the text.
+    Short([u8; MAX_SHORT], u8),
+    Long(String),
 }
 
 impl Model for Text {
     ghost use Rattle.std.specs.Prelude as prelude;
-    ghost use Rattle.std.specs.Prelude.{ℕ, string_bytes};
+    ghost use Rattle.std.specs.Prelude.{ℕ};
+    ghost use Rattle.arith_word.specs.TextInner.{inner_bytes, IsValidInner};
 
     ghost Value = { prelude.List ℕ };
 
-    ghost view = { λ text. string_bytes text.inner };
+    ghost view = { λ text. inner_bytes text.inner };
+
+    ghost invariant = { λ text. IsValidInner text.inner };
 }
 
 impl Text {
@@ -24,16 +38,33 @@ impl Text {
     pub fn from_string(inner: String) -> Text
         ensures { result ≡ string_bytes inner }
     {
-        Text { inner }
+        Text { inner: Long(inner) }
     }
 
     /// The text of these bytes; `None` exactly where they are no UTF-8.
     pub fn from_bytes(alloc: Global, bytes: &[u8]) -> Result<Option<Text>, AllocError>
         ensures { IfOk result (λ o. MatchOption o (IsUtf8 bytes.now → ⊥) (λ text. text ≡ bytes.now)) }
     {
-        match String::from_utf8(Vec::from_slice(alloc, bytes)?) {
-            Ok(inner) => Ok(Some(Text { inner })),
-            Err(_) => Ok(None),
+        let Ok(text) = str::from_utf8(bytes) else {
+            return Ok(None);
+        };
+        if text.len() <= MAX_SHORT {
+            return Ok(Some(Text::short(text)));
+        }
+        Ok(Some(Text {
+            inner: Long(String::from_str(alloc, text)?),
+        }))
+    }
+
+    // The text, in the value itself.
+    fn short(text: &str) -> Text
+        requires { length text.now ≤ 30 }
+        ensures { result ≡ text.now }
+    {
+        let mut bytes = [0; MAX_SHORT];
+        bytes[..text.len()].copy_from_slice(text.as_bytes());
+        Text {
+            inner: Short(bytes, text.len() as u8),
         }
     }
 
@@ -41,14 +72,26 @@ impl Text {
     pub fn as_str(&self) -> &str
         ensures { result.now ≡ self.now }
     {
-        self.inner.as_str()
+        match &self.inner {
+            // A `Text` holds nothing but UTF-8.
+            Short(bytes, len) => unsafe { str::from_utf8_unchecked(&bytes[..usize::from(*len)]) },
+            Long(text) => text.as_str(),
+        }
     }
 
     /// The bytes of the text.
     pub fn as_bytes(&self) -> &[u8]
         ensures { result.now ≡ self.now }
     {
-        self.inner.as_bytes()
+        self.as_str().as_bytes()
+    }
+}
+
+impl fmt::Debug for Text {
+    fn fmt<W: fmt::Write>(&self, f: &mut fmt::Formatter<W>) -> fmt::Result {
+        f.debug_struct("Text")
+            .field("inner", &self.as_str())
+            .finish()
     }
 }
 
@@ -56,6 +99,6 @@ impl fmt::Display for Text {
     ghost output = { λ text. Some text };
 
     fn fmt<W: fmt::Write>(&self, f: &mut fmt::Formatter<W>) -> fmt::Result {
-        f.write_str(self.inner.as_str())
+        f.write_str(self.as_str())
     }
 }
