@@ -1,4 +1,4 @@
-ghost use Rattle.std.specs.Prelude.{◌≡◌, ◌==◌, IfOk};
+ghost use Rattle.std.specs.Prelude.{◌≡◌, ◌==◌, map, IfOk};
 ghost use Rattle.mlir_ir.specs.Grammar.{Pattern};
 ghost use Rattle.mlir_parse.specs.Tables as tables;
 ghost use Rattle.mlir_parse.specs.Seen.{seen, Marks, Stands};
@@ -260,15 +260,22 @@ pub fn begins(rule: &Rule, terminal: Terminal) -> bool
     }
 }
 
+/// For each of the terminals, whether a text of the rule may begin with it.
+fn marks_among(alloc: Global, rule: &Rule, terminals: &[Terminal]) -> Result<Vec<bool>, AllocError>
+    ensures { IfOk result (λ marks. marks.items ≡ map (tables.first (seen rule.now)) terminals.now) }
+{
+    let mut marks = Vec::with_capacity(alloc, terminals.len())?;
+    for terminal in terminals {
+        marks.push(begins(rule, *terminal))?;
+    }
+    Ok(marks)
+}
+
 /// For each terminal, by its number, whether a text of the rule may begin with it.
 fn marks_of(alloc: Global, rule: &Rule) -> Result<Vec<bool>, AllocError>
     ensures { IfOk result (λ marks. Marks marks.items (seen rule.now)) }
 {
-    let mut marks = Vec::with_capacity(alloc, 46)?;
-    'terminals: for terminal in TERMINALS {
-        marks.push(begins(rule, terminal))?;
-    }
-    Ok(marks)
+    marks_among(alloc, rule, &TERMINALS)
 }
 
 /// Whether a text of the rule with these marks may begin with the terminal.
