@@ -18,7 +18,7 @@ read-read-requires-in-Region t c =
     let rank_is : rank (seen c.deref-in-Region.result.now) ≡ rank (seen c.in-Region.a.value) = ap (λ x. rank (seen x)) c.deref-in-Region.ensures in
     let weight_is : weight (seen c.deref-in-Region.result.now) ≡ weight (seen c.in-Region.a.value) = ap (λ x. weight (seen x)) c.deref-in-Region.ensures in
     let q = found LeftBrace c.args.tokens.now c.args.at (sym c.next_is.ensures ∙ c.if-not-next_is.false) in
-    (omega (arith, c.decreases, top, rank_is, small, low), (c.requires.lines, (omega (arith, weight_is, small), (omega (arith, q.0), (c.requires.few, (omega arith, rw (sym c.deref-in-Region.ensures) (rw c.in-Region.is at c.requires.marked)))))))
+    (omega (arith, c.decreases, top, rank_is, small, low), (c.requires.lines, (omega (arith, weight_is, small), (omega (arith, q.0), (c.requires.few, (omega arith, rw c.deref-in-Region.ensures (rw c.in-Region.is at c.requires.marked)))))))
 
 pub read-returns-in-Nothing-clause-grows : goal.read-returns-in-Nothing-clause-grows
 read-returns-in-Nothing-clause-grows t c = rw c.in-Nothing.is (grows_nothing c.args.tokens.now c.args.depth c.args.at c.args.out.now.items)
