@@ -123,7 +123,7 @@ read-returns-in_ok-push-in-Ok-clause-grows t c =
     c.in_ok-push-in-Ok.ensures.items
     c.line.ensures
     c.line_rule.ensures.is
-    (rw c.new-parts.ensures.items at c.in-Ok.ensures.grows))
+    (rw c.in_ok-parts-in-Line.ensures.items at c.in-Ok.ensures.grows))
 
 pub read-returns-in-Ok-read-2-clause-grows : goal.read-returns-in-Ok-read-2-clause-grows
 read-returns-in-Ok-read-2-clause-grows t c =
