@@ -202,7 +202,7 @@ pub not_true : (a : Bool) → not a ≡ true → a ≡ false
 not_true true h = cc
 not_true false h = refl
 
-at_number : (c : Terminal) → slice_get terminals (number c) ≡ Some c
+pub at_number : (c : Terminal) → slice_get terminals (number c) ≡ Some c
 at_number Module = refl
 at_number Function = refl
 at_number Private = refl

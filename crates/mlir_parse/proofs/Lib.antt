@@ -13,6 +13,7 @@ pub mod Wholes
 pub mod Grows
 pub mod Unique
 pub mod Table
+pub mod Marks
 pub mod Roots
 pub mod Hopes
 pub mod Parsed

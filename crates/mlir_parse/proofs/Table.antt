@@ -2,30 +2,30 @@
 use Rattle.std.proofs.Common.{◌≡◌, ℕ, ◌<◌, List, [], ◌∷◌, length, subst, sym, slice_index_or, lit<}
 use Rattle.mlir_ir.specs.Grammar.{body}
 use Rattle.mlir_parse.specs.Tables.{form_at}
-use Rattle.mlir_parse.specs.Seen.{seen, AreLines}
+use Rattle.mlir_parse.specs.Seen.{Stands, AreLines}
 use Rattle.mlir_parse.specs.declared.rule.Rule.{Rule}
 use Rattle.mlir_ir.specs.declared.syntax.Form.{Form}
 use Rattle.mlir_ir.specs.declared.syntax.Form.TheVariants.{Leaf, Whole, Func, Params, Types, Results, TypeName, Body, Ends, Uses, Use, Op, Pack, Kind, Inits, Region, Flags}
 
 these_are : (r0 r1 r2 r3 r4 r5 r6 r7 r8 r9 r10 r11 r12 r13 r14 r15 r16 : Rule)
-    → seen r0 ≡ body Leaf
-    → seen r1 ≡ body Whole
-    → seen r2 ≡ body Func
-    → seen r3 ≡ body Params
-    → seen r4 ≡ body Types
-    → seen r5 ≡ body Results
-    → seen r6 ≡ body TypeName
-    → seen r7 ≡ body Body
-    → seen r8 ≡ body Ends
-    → seen r9 ≡ body Uses
-    → seen r10 ≡ body Use
-    → seen r11 ≡ body Op
-    → seen r12 ≡ body Pack
-    → seen r13 ≡ body Kind
-    → seen r14 ≡ body Inits
-    → seen r15 ≡ body Region
-    → seen r16 ≡ body Flags
-    → (f : Form) → (form_at f < length (r0 ∷ r1 ∷ r2 ∷ r3 ∷ r4 ∷ r5 ∷ r6 ∷ r7 ∷ r8 ∷ r9 ∷ r10 ∷ r11 ∷ r12 ∷ r13 ∷ r14 ∷ r15 ∷ r16 ∷ [])) × ((d : Rule) → seen (slice_index_or (r0 ∷ r1 ∷ r2 ∷ r3 ∷ r4 ∷ r5 ∷ r6 ∷ r7 ∷ r8 ∷ r9 ∷ r10 ∷ r11 ∷ r12 ∷ r13 ∷ r14 ∷ r15 ∷ r16 ∷ []) (form_at f) d) ≡ body f)
+    → Stands r0 (body Leaf)
+    → Stands r1 (body Whole)
+    → Stands r2 (body Func)
+    → Stands r3 (body Params)
+    → Stands r4 (body Types)
+    → Stands r5 (body Results)
+    → Stands r6 (body TypeName)
+    → Stands r7 (body Body)
+    → Stands r8 (body Ends)
+    → Stands r9 (body Uses)
+    → Stands r10 (body Use)
+    → Stands r11 (body Op)
+    → Stands r12 (body Pack)
+    → Stands r13 (body Kind)
+    → Stands r14 (body Inits)
+    → Stands r15 (body Region)
+    → Stands r16 (body Flags)
+    → (f : Form) → (form_at f < length (r0 ∷ r1 ∷ r2 ∷ r3 ∷ r4 ∷ r5 ∷ r6 ∷ r7 ∷ r8 ∷ r9 ∷ r10 ∷ r11 ∷ r12 ∷ r13 ∷ r14 ∷ r15 ∷ r16 ∷ [])) × ((d : Rule) → Stands (slice_index_or (r0 ∷ r1 ∷ r2 ∷ r3 ∷ r4 ∷ r5 ∷ r6 ∷ r7 ∷ r8 ∷ r9 ∷ r10 ∷ r11 ∷ r12 ∷ r13 ∷ r14 ∷ r15 ∷ r16 ∷ []) (form_at f) d) (body f))
 these_are r0 r1 r2 r3 r4 r5 r6 r7 r8 r9 r10 r11 r12 r13 r14 r15 r16 h0 h1 h2 h3 h4 h5 h6 h7 h8 h9 h10 h11 h12 h13 h14 h15 h16 Leaf = (lit< tt, λ d. h0)
 these_are r0 r1 r2 r3 r4 r5 r6 r7 r8 r9 r10 r11 r12 r13 r14 r15 r16 h0 h1 h2 h3 h4 h5 h6 h7 h8 h9 h10 h11 h12 h13 h14 h15 h16 Whole = (lit< tt, λ d. h1)
 these_are r0 r1 r2 r3 r4 r5 r6 r7 r8 r9 r10 r11 r12 r13 r14 r15 r16 h0 h1 h2 h3 h4 h5 h6 h7 h8 h9 h10 h11 h12 h13 h14 h15 h16 Func = (lit< tt, λ d. h2)
@@ -46,22 +46,22 @@ these_are r0 r1 r2 r3 r4 r5 r6 r7 r8 r9 r10 r11 r12 r13 r14 r15 r16 h0 h1 h2 h3 
 
 -- seventeen right sides in the order of the forms are the lines
 pub lines_are : (r0 r1 r2 r3 r4 r5 r6 r7 r8 r9 r10 r11 r12 r13 r14 r15 r16 : Rule) (rules : List Rule) → rules ≡ r0 ∷ r1 ∷ r2 ∷ r3 ∷ r4 ∷ r5 ∷ r6 ∷ r7 ∷ r8 ∷ r9 ∷ r10 ∷ r11 ∷ r12 ∷ r13 ∷ r14 ∷ r15 ∷ r16 ∷ []
-    → seen r0 ≡ body Leaf
-    → seen r1 ≡ body Whole
-    → seen r2 ≡ body Func
-    → seen r3 ≡ body Params
-    → seen r4 ≡ body Types
-    → seen r5 ≡ body Results
-    → seen r6 ≡ body TypeName
-    → seen r7 ≡ body Body
-    → seen r8 ≡ body Ends
-    → seen r9 ≡ body Uses
-    → seen r10 ≡ body Use
-    → seen r11 ≡ body Op
-    → seen r12 ≡ body Pack
-    → seen r13 ≡ body Kind
-    → seen r14 ≡ body Inits
-    → seen r15 ≡ body Region
-    → seen r16 ≡ body Flags
+    → Stands r0 (body Leaf)
+    → Stands r1 (body Whole)
+    → Stands r2 (body Func)
+    → Stands r3 (body Params)
+    → Stands r4 (body Types)
+    → Stands r5 (body Results)
+    → Stands r6 (body TypeName)
+    → Stands r7 (body Body)
+    → Stands r8 (body Ends)
+    → Stands r9 (body Uses)
+    → Stands r10 (body Use)
+    → Stands r11 (body Op)
+    → Stands r12 (body Pack)
+    → Stands r13 (body Kind)
+    → Stands r14 (body Inits)
+    → Stands r15 (body Region)
+    → Stands r16 (body Flags)
     → AreLines rules
 lines_are r0 r1 r2 r3 r4 r5 r6 r7 r8 r9 r10 r11 r12 r13 r14 r15 r16 rules e h0 h1 h2 h3 h4 h5 h6 h7 h8 h9 h10 h11 h12 h13 h14 h15 h16 = subst AreLines (sym e) (these_are r0 r1 r2 r3 r4 r5 r6 r7 r8 r9 r10 r11 r12 r13 r14 r15 r16 h0 h1 h2 h3 h4 h5 h6 h7 h8 h9 h10 h11 h12 h13 h14 h15 h16)

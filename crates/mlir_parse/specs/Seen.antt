@@ -1,7 +1,7 @@
 -- The grammar's right sides as the code has them.
-use Rattle.std.specs.Prelude.{ℕ, ◌≡◌, ◌<◌, ◌≤◌, List, length, drop, slice_index_or, Result, Ok, Err}
+use Rattle.std.specs.Prelude.{ℕ, Bool, map, ◌≡◌, ◌<◌, ◌≤◌, List, length, drop, slice_index_or, Result, Ok, Err}
 use Rattle.mlir_ir.specs.Grammar.{Pattern, nothing, one, line, both, either, many, region, body}
-use Rattle.mlir_parse.specs.Tables.{form_at}
+use Rattle.mlir_parse.specs.Tables.{form_at, first, terminals}
 use Rattle.mlir_parse.specs.Runs.{Runs, Done, Stop, Deep}
 use Rattle.mlir_ir.specs.Texts.{IsSyntaxFault, IsTooDeep}
 use Rattle.mlir_ir.specs.Trees.{Forest, join, forest, Derives}
@@ -18,13 +18,31 @@ seen Nothing = nothing
 seen (One c) = one c
 seen (Line f) = line f
 seen (Both' p a q b) = both (seen a) (seen b)
-seen (Either' p a q b) = either (seen a) (seen b)
-seen (Many' p a) = many (seen a)
+seen (Either' m p a q b) = either (seen a) (seen b)
+seen (Many' m p a) = many (seen a)
 seen (Region' p a) = region (seen a)
+
+-- for each terminal, by its number, whether a text of the pattern may begin with it
+abbrev pub Marks : List Bool → Pattern → Type 0
+Marks marks r = marks ≡ map (first r) terminals
+
+-- the marks at each choice are those of what it chooses
+abbrev pub IsMarked : Rule → Type 0
+IsMarked Nothing = Unit {0}
+IsMarked (One c) = Unit {0}
+IsMarked (Line f) = Unit {0}
+IsMarked (Both' p a q b) = IsMarked a × IsMarked b
+IsMarked (Either' m p a q b) = Marks m.items (seen a) × IsMarked a × IsMarked b
+IsMarked (Many' m p a) = Marks m.items (seen a) × IsMarked a
+IsMarked (Region' p a) = IsMarked a
+
+-- the rule is that of the pattern, with its marks
+abbrev pub Stands : Rule → Pattern → Type 0
+Stands rule r = (seen rule ≡ r) × IsMarked rule
 
 -- the right sides of all lines, in the order of their numbers
 abbrev pub AreLines : List Rule → Type 0
-AreLines rules = (f : Form) → (form_at f < length rules) × ((d : Rule) → seen (slice_index_or rules (form_at f) d) ≡ body f)
+AreLines rules = (f : Form) → (form_at f < length rules) × ((d : Rule) → Stands (slice_index_or rules (form_at f) d) (body f))
 
 -- the run from a place on ends so
 abbrev pub Gives : ℕ → Pattern → List Terminal → ℕ → Result ℕ Fault → Type 0

@@ -1,20 +1,21 @@
 ghost use Rattle.std.specs.Prelude.{◌≡◌, ◌≤◌, ◌<◌, ◌^◌, length, drop, IfOk};
 ghost use Rattle.mlir_ir.specs.Grammar.{many, one, body};
-ghost use Rattle.mlir_parse.specs.Seen.{seen, AreLines, Gives, Grows};
+ghost use Rattle.mlir_parse.specs.Seen.{seen, AreLines, Gives, Grows, Marks, IsMarked};
 ghost use Rattle.mlir_parse.specs.Runs.{starts, is_next};
 ghost use Rattle.mlir_parse.specs.Tables.{weight};
 
 use crate::fault::Fault;
-use crate::rule::{Rule, begins, form_number, is_same};
+use crate::rule::{Rule, form_number, is_marked, is_same};
 use mlir_ir::{Branch, Form, Terminal};
 use std::alloc::Global;
 
-/// Whether a text of the rule may begin at the place.
+/// Whether a text of the rule, which has these marks, may begin at the place.
 #[tactic(auto, using(crate::proofs::Places::starts_here, crate::proofs::Places::starts_none))]
-fn may_begin(rule: &Rule, tokens: &[Terminal], at: usize) -> bool
+fn may_begin(rule: &Rule, marks: &Vec<bool>, tokens: &[Terminal], at: usize) -> bool
+    requires { Marks marks.now.items (seen rule.now) }
     ensures { result ≡ starts (seen rule.now) (drop at tokens.now) }
 {
-    at < tokens.len() && begins(rule, tokens[at])
+    at < tokens.len() && is_marked(marks.as_slice(), tokens[at])
 }
 
 /// Whether the terminal stands at the place.
@@ -56,6 +57,7 @@ fn read_many(
     out: &mut Vec<Branch>,
     lines: &[Rule],
     rule: &Rule,
+    marks: &Vec<bool>,
     depth: usize,
     tokens: &[Terminal],
     at: usize,
@@ -65,11 +67,13 @@ fn read_many(
     requires within { at ≤ length tokens.now }
     requires few { length tokens.now < 2 ^ 32 }
     requires shallow { depth ≤ 12 }
+    requires marked { IsMarked rule.now }
+    requires marks { Marks marks.now.items (seen rule.now) }
     ensures gives { Gives depth (many (seen rule.now)) tokens.now at result }
     ensures grows { IfOk result (Grows tokens.now depth (many (seen rule.now)) at out.old.items out.new.items) }
 {
     let mut here = at;
-    'again: while may_begin(rule, tokens, here) {
+    'again: while may_begin(rule, marks, tokens, here) {
         match read(alloc, out, lines, rule, depth, tokens, here) {
             Err(fault) => return Err(fault),
             Ok(next) => here = next,
@@ -81,9 +85,23 @@ fn read_many(
 /// The right side of the line.
 pub fn line_rule(lines: &[Rule], form: Form) -> &Rule
     requires { AreLines lines.now }
-    ensures { seen result.now ≡ body form }
+    ensures is { seen result.now ≡ body form }
+    ensures marked { IsMarked result.now }
 {
     &lines[form_number(form)]
+}
+
+/// How many parts a text of the line has as a rule, and 0 where that says little.
+fn room_of(form: Form) -> usize
+    ensures { result ≤ 8 }
+{
+    match form {
+        Form::TypeName | Form::Use | Form::Pack | Form::Results => 1,
+        Form::Op | Form::Ends => 3,
+        Form::Params | Form::Types | Form::Uses | Form::Inits => 4,
+        Form::Kind => 8,
+        _ => 0,
+    }
 }
 
 /// Reads a text of the rule from the place on, with that many regions open, and adds its branches.
@@ -103,6 +121,7 @@ pub fn read(
     requires within { at ≤ length tokens.now }
     requires few { length tokens.now < 2 ^ 32 }
     requires shallow { depth ≤ 12 }
+    requires marked { IsMarked rule.now }
     ensures gives { Gives depth (seen rule.now) tokens.now at result }
     ensures grows { IfOk result (Grows tokens.now depth (seen rule.now) at out.old.items out.new.items) }
 {
@@ -110,7 +129,7 @@ pub fn read(
         Rule::Nothing => Ok(at),
         Rule::One(terminal) => read_one(alloc, out, *terminal, depth, tokens, at),
         Rule::Line(form) => {
-            let mut parts = Vec::new(alloc);
+            let mut parts = Vec::with_capacity(alloc, room_of(*form))?;
             match read(
                 alloc,
                 &mut parts,
@@ -131,14 +150,14 @@ pub fn read(
             Err(fault) => Err(fault),
             Ok(mid) => read(alloc, out, lines, b, depth, tokens, mid),
         },
-        Rule::Either(a, b) => {
-            if may_begin(a, tokens, at) {
+        Rule::Either(marks, a, b) => {
+            if may_begin(a, marks, tokens, at) {
                 read(alloc, out, lines, a, depth, tokens, at)
             } else {
                 read(alloc, out, lines, b, depth, tokens, at)
             }
         }
-        Rule::Many(a) => read_many(alloc, out, lines, a, depth, tokens, at),
+        Rule::Many(marks, a) => read_many(alloc, out, lines, a, marks, depth, tokens, at),
         Rule::Region(a) => {
             if !next_is(Terminal::LeftBrace, tokens, at) {
                 return Err(Fault::Syntax(at));

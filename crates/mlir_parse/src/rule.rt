@@ -1,6 +1,7 @@
-ghost use Rattle.std.specs.Prelude.{◌≡◌, ◌==◌};
+ghost use Rattle.std.specs.Prelude.{◌≡◌, ◌==◌, map, IfOk};
+ghost use Rattle.mlir_ir.specs.Grammar.{Pattern};
 ghost use Rattle.mlir_parse.specs.Tables as tables;
-ghost use Rattle.mlir_parse.specs.Seen.{seen};
+ghost use Rattle.mlir_parse.specs.Seen.{seen, Marks, Stands};
 
 use mlir_ir::{Form, Terminal};
 use std::alloc::{AllocError, Global};
@@ -16,16 +17,15 @@ pub enum Rule {
     Line(Form),
     /// One behind the other.
     Both(Box<Rule>, Box<Rule>),
-    /// One of the two.
-    Either(Box<Rule>, Box<Rule>),
-    /// Any number of times.
-    Many(Box<Rule>),
+    /// One of the two, with the marks of the first.
+    Either(Vec<bool>, Box<Rule>, Box<Rule>),
+    /// Any number of times, with the marks of once.
+    Many(Vec<bool>, Box<Rule>),
     /// A region: what stands inside its braces.
     Region(Box<Rule>),
 }
 
 impl Rule {
-    ghost use Rattle.std.specs.Prelude.{IfOk};
     ghost use Rattle.mlir_ir.specs.Grammar.{both};
 
     /// This rule, and the next one behind it.
@@ -35,6 +35,56 @@ impl Rule {
         Ok(Rule::Both(Box::new(alloc, self)?, Box::new(alloc, next)?))
     }
 }
+
+/// All terminals, by their numbers.
+const TERMINALS: [Terminal; 46] = [
+    Terminal::Module,
+    Terminal::Function,
+    Terminal::Private,
+    Terminal::TypeWord,
+    Terminal::Return,
+    Terminal::Constant,
+    Terminal::Truth,
+    Terminal::Binary,
+    Terminal::FlaggedBinary,
+    Terminal::Cast,
+    Terminal::FlaggedCast,
+    Terminal::Compare,
+    Terminal::Predicate,
+    Terminal::Select,
+    Terminal::Call,
+    Terminal::If,
+    Terminal::Else,
+    Terminal::For,
+    Terminal::To,
+    Terminal::Step,
+    Terminal::IterArgs,
+    Terminal::While,
+    Terminal::Condition,
+    Terminal::Do,
+    Terminal::Yield,
+    Terminal::Overflow,
+    Terminal::Nsw,
+    Terminal::Nuw,
+    Terminal::OtherWord,
+    Terminal::Value,
+    Terminal::Symbol,
+    Terminal::Caret,
+    Terminal::Pick,
+    Terminal::Decimal,
+    Terminal::Hexadecimal,
+    Terminal::LeftParen,
+    Terminal::RightParen,
+    Terminal::LeftBrace,
+    Terminal::RightBrace,
+    Terminal::Less,
+    Terminal::Greater,
+    Terminal::Comma,
+    Terminal::Colon,
+    Terminal::Equals,
+    Terminal::Arrow,
+    Terminal::Minus,
+];
 
 /// The number of the terminal.
 fn number_of(terminal: Terminal) -> u8
@@ -189,8 +239,8 @@ fn can_be_empty(rule: &Rule) -> bool
         Rule::One(_) => false,
         Rule::Line(form) => line_is_empty(*form),
         Rule::Both(a, b) => can_be_empty(a) && can_be_empty(b),
-        Rule::Either(a, b) => can_be_empty(a) || can_be_empty(b),
-        Rule::Many(_) => true,
+        Rule::Either(_, a, b) => can_be_empty(a) || can_be_empty(b),
+        Rule::Many(_, _) => true,
         Rule::Region(_) => false,
     }
 }
@@ -204,8 +254,68 @@ pub fn begins(rule: &Rule, terminal: Terminal) -> bool
         Rule::One(wanted) => is_same(*wanted, terminal),
         Rule::Line(form) => line_begins(*form, terminal),
         Rule::Both(a, b) => begins(a, terminal) || (can_be_empty(a) && begins(b, terminal)),
-        Rule::Either(a, b) => begins(a, terminal) || begins(b, terminal),
-        Rule::Many(a) => begins(a, terminal),
+        Rule::Either(_, a, b) => begins(a, terminal) || begins(b, terminal),
+        Rule::Many(_, a) => begins(a, terminal),
         Rule::Region(_) => is_same(Terminal::LeftBrace, terminal),
+    }
+}
+
+/// For each of the terminals, whether a text of the rule may begin with it.
+fn marks_among(alloc: Global, rule: &Rule, terminals: &[Terminal]) -> Result<Vec<bool>, AllocError>
+    ensures { IfOk result (λ marks. marks.items ≡ map (tables.first (seen rule.now)) terminals.now) }
+{
+    let mut marks = Vec::with_capacity(alloc, terminals.len())?;
+    for terminal in terminals {
+        marks.push(begins(rule, *terminal))?;
+    }
+    Ok(marks)
+}
+
+/// For each terminal, by its number, whether a text of the rule may begin with it.
+fn marks_of(alloc: Global, rule: &Rule) -> Result<Vec<bool>, AllocError>
+    ensures { IfOk result (λ marks. Marks marks.items (seen rule.now)) }
+{
+    marks_among(alloc, rule, &TERMINALS)
+}
+
+/// Whether a text of the rule with these marks may begin with the terminal.
+#[tactic(auto, using(crate::proofs::Marks::marked_at))]
+pub fn is_marked(marks: &[bool], terminal: Terminal) -> bool
+    ensures { (r : Pattern) → Marks marks.now r → result ≡ tables.first r terminal }
+{
+    match marks.get(number_of(terminal) as usize) {
+        Some(mark) => *mark,
+        None => false,
+    }
+}
+
+/// The same rule, with its marks.
+pub fn with_marks(alloc: Global, rule: &Rule) -> Result<Rule, AllocError>
+    ensures { IfOk result (λ made. Stands made (seen rule.now)) }
+{
+    match rule {
+        Rule::Nothing => Ok(Rule::Nothing),
+        Rule::One(terminal) => Ok(Rule::One(*terminal)),
+        Rule::Line(form) => Ok(Rule::Line(*form)),
+        Rule::Both(a, b) => {
+            let first = with_marks(alloc, a)?;
+            let second = with_marks(alloc, b)?;
+            Ok(Rule::Both(Box::new(alloc, first)?, Box::new(alloc, second)?))
+        }
+        Rule::Either(_, a, b) => {
+            let marks = marks_of(alloc, a)?;
+            let first = with_marks(alloc, a)?;
+            let second = with_marks(alloc, b)?;
+            Ok(Rule::Either(marks, Box::new(alloc, first)?, Box::new(alloc, second)?))
+        }
+        Rule::Many(_, a) => {
+            let marks = marks_of(alloc, a)?;
+            let once = with_marks(alloc, a)?;
+            Ok(Rule::Many(marks, Box::new(alloc, once)?))
+        }
+        Rule::Region(a) => {
+            let inside = with_marks(alloc, a)?;
+            Ok(Rule::Region(Box::new(alloc, inside)?))
+        }
     }
 }

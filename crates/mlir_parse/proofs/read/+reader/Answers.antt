@@ -18,7 +18,7 @@ read-read-requires-in-Region t c =
     let rank_is : rank (seen c.deref-in-Region.result.now) ≡ rank (seen c.in-Region.a.value) = ap (λ x. rank (seen x)) c.deref-in-Region.ensures in
     let weight_is : weight (seen c.deref-in-Region.result.now) ≡ weight (seen c.in-Region.a.value) = ap (λ x. weight (seen x)) c.deref-in-Region.ensures in
     let q = found LeftBrace c.args.tokens.now c.args.at (sym c.next_is.ensures ∙ c.if-not-next_is.false) in
-    (omega (arith, c.decreases, top, rank_is, small, low), (c.requires.lines, (omega (arith, weight_is, small), (omega (arith, q.0), (c.requires.few, omega arith)))))
+    (omega (arith, c.decreases, top, rank_is, small, low), (c.requires.lines, (omega (arith, weight_is, small), (omega (arith, q.0), (c.requires.few, (omega arith, rw c.deref-in-Region.ensures (rw c.in-Region.is at c.requires.marked)))))))
 
 pub read-returns-in-Nothing-clause-grows : goal.read-returns-in-Nothing-clause-grows
 read-returns-in-Nothing-clause-grows t c = rw c.in-Nothing.is (grows_nothing c.args.tokens.now c.args.depth c.args.at c.args.out.now.items)
@@ -104,7 +104,7 @@ read_many-returns-clause-grows t c =
 pub read-returns-in_ok-push-in-Ok-clause-gives : goal.read-returns-in_ok-push-in-Ok-clause-gives
 read-returns-in_ok-push-in-Ok-clause-gives t c =
     rw c.in-Line.is
-    (gives_line c.args.depth c.in-Line.form (seen c.line_rule.result.now) c.args.tokens.now c.args.at (Ok c.in-Ok.next) c.line_rule.ensures c.in-Ok.ensures.gives)
+    (gives_line c.args.depth c.in-Line.form (seen c.line_rule.result.now) c.args.tokens.now c.args.at (Ok c.in-Ok.next) c.line_rule.ensures.is c.in-Ok.ensures.gives)
 
 pub read-returns-in_ok-push-in-Ok-clause-grows : goal.read-returns-in_ok-push-in-Ok-clause-grows
 read-returns-in_ok-push-in-Ok-clause-grows t c =
@@ -122,8 +122,8 @@ read-returns-in_ok-push-in-Ok-clause-grows t c =
     c.line.result
     c.in_ok-push-in-Ok.ensures.items
     c.line.ensures
-    c.line_rule.ensures
-    (rw c.new-parts.ensures.items at c.in-Ok.ensures.grows))
+    c.line_rule.ensures.is
+    (rw c.in_ok-parts-in-Line.ensures.items at c.in-Ok.ensures.grows))
 
 pub read-returns-in-Ok-read-2-clause-grows : goal.read-returns-in-Ok-read-2-clause-grows
 read-returns-in-Ok-read-2-clause-grows t c =
