@@ -253,3 +253,29 @@ fn lists_and_texts_keep_their_contents(rt: HostRuntime) -> Result<(), Fail> {
     assert!(rt; Text::from_bytes(rt.alloc(), &[0xff])?.is_none());
     Ok(())
 }
+
+#[test]
+fn texts_about_the_border_of_short_ones(rt: HostRuntime) -> Result<(), Fail> {
+    let long = "%abcdefghijklmnopqrstuvwxyz0123";
+    for len in [0, 1, 29, 30, 31] {
+        let front = long.as_bytes().split_at(len).0;
+        let text = Text::from_bytes(rt.alloc(), front)?;
+        assert!(rt; matches!(&text, Some(t) if t.as_bytes() == front));
+    }
+    // a character of two bytes that ends at the border, and one that crosses it
+    for wide in ["abcdefghijklmnopqrstuvwxyz01é", "abcdefghijklmnopqrstuvwxyz012é"] {
+        let text = Text::from_bytes(rt.alloc(), wide.as_bytes())?;
+        assert!(rt; matches!(&text, Some(t) if t.as_str() == wide));
+        let cut = wide.as_bytes().split_at(wide.len() - 1).0;
+        assert!(rt; Text::from_bytes(rt.alloc(), cut)?.is_none());
+    }
+    Ok(())
+}
+
+#[test]
+fn texts_are_shown_with_their_bytes(rt: HostRuntime) -> Result<(), Fail> {
+    let text = Text::from_bytes(rt.alloc(), "%x".as_bytes())?;
+    let shown = format!(in rt.alloc(); "{text:?}")?;
+    assert_eq!(rt; shown.as_str(), "Some(Text { inner: \"%x\" })");
+    Ok(())
+}
