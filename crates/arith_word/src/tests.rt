@@ -263,7 +263,10 @@ fn texts_about_the_border_of_short_ones(rt: HostRuntime) -> Result<(), Fail> {
         assert!(rt; matches!(&text, Some(t) if t.as_bytes() == front));
     }
     // a character of two bytes that ends at the border, and one that crosses it
-    for wide in ["abcdefghijklmnopqrstuvwxyz01é", "abcdefghijklmnopqrstuvwxyz012é"] {
+    for wide in [
+        "abcdefghijklmnopqrstuvwxyz01é",
+        "abcdefghijklmnopqrstuvwxyz012é",
+    ] {
         let text = Text::from_bytes(rt.alloc(), wide.as_bytes())?;
         assert!(rt; matches!(&text, Some(t) if t.as_str() == wide));
         let cut = wide.as_bytes().split_at(wide.len() - 1).0;
