@@ -251,6 +251,7 @@ fn lists_and_texts_keep_their_contents(rt: HostRuntime) -> Result<(), Fail> {
     let same = Text::from_bytes(rt.alloc(), text.as_bytes())?;
     assert!(rt; matches!(&same, Some(t) if t.as_str() == "%7"));
     assert!(rt; Text::from_bytes(rt.alloc(), &[0xff])?.is_none());
+    assert_eq!(rt; Text::from_str(rt.alloc(), "%é")?.as_str(), "%é");
     Ok(())
 }
 

@@ -8,7 +8,7 @@ use std::{fmt, str};
 // The longest text that lies in the value itself.
 const MAX_SHORT: usize = 30;
 
-/// A text that contracts see as its bytes. `from_bytes` keeps up to 30 of them with no allocation.
+/// A text that contracts see as its bytes. Up to 30 bytes take no allocation, but for those of `from_string`.
 #[derive(Drop)]
 pub struct Text {
     inner: Inner,
@@ -41,19 +41,26 @@ impl Text {
         Text { inner: Long(inner) }
     }
 
+    /// A copy of the text.
+    pub fn from_str(alloc: Global, text: &str) -> Result<Text, AllocError>
+        ensures { IfOk result (λ made. made ≡ text.now) }
+    {
+        if text.len() <= MAX_SHORT {
+            return Ok(Text::short(text));
+        }
+        Ok(Text {
+            inner: Long(String::from_str(alloc, text)?),
+        })
+    }
+
     /// The text of these bytes; `None` exactly where they are no UTF-8.
     pub fn from_bytes(alloc: Global, bytes: &[u8]) -> Result<Option<Text>, AllocError>
         ensures { IfOk result (λ o. MatchOption o (IsUtf8 bytes.now → ⊥) (λ text. text ≡ bytes.now)) }
     {
-        let Ok(text) = str::from_utf8(bytes) else {
-            return Ok(None);
-        };
-        if text.len() <= MAX_SHORT {
-            return Ok(Some(Text::short(text)));
+        match str::from_utf8(bytes) {
+            Ok(text) => Ok(Some(Text::from_str(alloc, text)?)),
+            Err(_) => Ok(None),
         }
-        Ok(Some(Text {
-            inner: Long(String::from_str(alloc, text)?),
-        }))
     }
 
     // The text, in the value itself.
