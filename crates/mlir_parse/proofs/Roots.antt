@@ -2,7 +2,7 @@
 use Rattle.std.proofs.Common.{◌≡◌, ℕ, ◌<◌, ◌≤◌, List, [], ◌∷◌, length, drop, refl, ap, ◌∙◌, sym, subst, arith, Ok, Err}
 use Rattle.mlir_ir.specs.Grammar.{Pattern, line, body}
 use Rattle.mlir_ir.specs.Texts.{IsSyntaxFault, IsTooDeep}
-use Rattle.mlir_ir.specs.Trees.{Forest, none, node, join, put, forest, Derives, IsTreeOf, derive_line}
+use Rattle.mlir_ir.specs.Trees.{Forest, none, node, put, forest, Derives, IsTreeOf, derive_line}
 use Rattle.mlir_ir.specs.declared.terminal.Terminal.{Terminal}
 use Rattle.mlir_ir.specs.declared.syntax.Form.TheVariants.{Whole}
 use Rattle.mlir_ir.specs.declared.syntax.Branch.{Branch}
@@ -25,7 +25,7 @@ pub whole_tree : (ts : List Terminal) (r : Pattern) (next : ℕ) (parts : List B
     → ((rest : Forest) → put root rest ≡ node Whole 0 (forest parts) rest) → IsTreeOf ts (put root none)
 whole_tree ts r next parts root is gives far grows shown =
     let last : next ≡ length ts = omega (arith, gives.1, far) in
-    let inside : Derives ts 0 (body Whole) 0 grows.trees (length ts) =
-    subst (λ z. Derives ts 0 (body Whole) 0 grows.trees z) last (subst (λ z. Derives ts 0 z 0 grows.trees next) is grows.derived) in
-    let parts_are : forest parts ≡ grows.trees = grows.grown in
-    subst (λ z. IsTreeOf ts z) (sym (shown none ∙ ap (λ z. node Whole 0 z none) parts_are)) (derive_line inside)
+    let body_of : Derives ts 0 (body Whole) 0 (forest grows.row) (length ts) =
+    subst (λ z. Derives ts 0 (body Whole) 0 (forest grows.row) z) last (subst (λ z. Derives ts 0 z 0 (forest grows.row) next) is grows.derived) in
+    let inside = subst (λ z. Derives ts 0 (body Whole) 0 (forest z) (length ts)) (sym grows.grown) body_of in
+    subst (λ z. IsTreeOf ts z) (sym (shown none)) (derive_line inside)

@@ -1,10 +1,10 @@
 -- The grammar's right sides as the code has them.
-use Rattle.std.specs.Prelude.{ℕ, Bool, map, ◌≡◌, ◌<◌, ◌≤◌, List, length, drop, slice_index_or, Result, Ok, Err}
+use Rattle.std.specs.Prelude.{ℕ, Bool, map, ◌≡◌, ◌<◌, ◌≤◌, ◌++◌, List, length, drop, slice_index_or, Result, Ok, Err}
 use Rattle.mlir_ir.specs.Grammar.{Pattern, nothing, one, line, both, either, many, region, body}
 use Rattle.mlir_parse.specs.Tables.{form_at, first, terminals}
 use Rattle.mlir_parse.specs.Runs.{Runs, Done, Stop, Deep}
 use Rattle.mlir_ir.specs.Texts.{IsSyntaxFault, IsTooDeep}
-use Rattle.mlir_ir.specs.Trees.{Forest, join, forest, Derives}
+use Rattle.mlir_ir.specs.Trees.{forest, Derives}
 use Rattle.mlir_ir.specs.declared.terminal.Terminal.{Terminal}
 use Rattle.mlir_ir.specs.declared.syntax.Branch.{Branch}
 use Rattle.mlir_ir.specs.declared.syntax.Form.{Form}
@@ -57,8 +57,8 @@ IsFault ts (Syntax k) = IsSyntaxFault ts k
 IsFault ts (TooDeep k) = IsTooDeep ts k
 IsFault ts NoMemory = Unit {0}
 
--- the branches behind the old ones derive these tokens
+-- the branches that are new behind the old ones derive these tokens
 pub record Grows (ts : List Terminal) (n : ℕ) (r : Pattern) (at : ℕ) (old new : List Branch) (next : ℕ) : Type 0 where
-  pub trees : Forest
-  pub grown : forest new ≡ join (forest old) trees
-  pub derived : Derives ts n r at trees next
+  pub row : List Branch
+  pub grown : new ≡ old ++ row
+  pub derived : Derives ts n r at (forest row) next

@@ -91,19 +91,6 @@ pub fn line_rule(lines: &[Rule], form: Form) -> &Rule
     &lines[form_number(form)]
 }
 
-/// How many parts a text of the line has as a rule, and 0 where that says little.
-fn room_of(form: Form) -> usize
-    ensures { result ≤ 8 }
-{
-    match form {
-        Form::TypeName | Form::Use | Form::Pack | Form::Results => 1,
-        Form::Op | Form::Ends => 3,
-        Form::Params | Form::Types | Form::Uses | Form::Inits => 4,
-        Form::Kind => 8,
-        _ => 0,
-    }
-}
-
 /// Reads a text of the rule from the place on, with that many regions open, and adds its branches.
 #[cycle(reader)]
 #[tactic(auto, using(crate::proofs::Gives::gives_nothing, crate::proofs::Gives::gives_line, crate::proofs::Gives::gives_both, crate::proofs::Gives::gives_both_fails, crate::proofs::Gives::gives_left, crate::proofs::Gives::gives_right, crate::proofs::Gives::gives_no_brace, crate::proofs::Gives::gives_too_deep, crate::proofs::Gives::gives_region_ends, crate::proofs::Gives::gives_region_fails))]
@@ -129,10 +116,10 @@ pub fn read(
         Rule::Nothing => Ok(at),
         Rule::One(terminal) => read_one(alloc, out, *terminal, depth, tokens, at),
         Rule::Line(form) => {
-            let mut parts = Vec::with_capacity(alloc, room_of(*form))?;
+            let before = out.len();
             match read(
                 alloc,
-                &mut parts,
+                out,
                 lines,
                 line_rule(lines, *form),
                 depth,
@@ -141,6 +128,7 @@ pub fn read(
             ) {
                 Err(fault) => Err(fault),
                 Ok(next) => {
+                    let parts = out.split_off(before)?;
                     out.push(Branch::line(*form, at as u32, parts))?;
                     Ok(next)
                 }
