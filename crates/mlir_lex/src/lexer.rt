@@ -8,6 +8,7 @@ use crate::gap::gap_len;
 use arith_word::{List, Text};
 use mlir_ir::Token;
 use std::alloc::{AllocError, Global};
+use std::str;
 
 /// The token at the front of the bytes, which begin at the place.
 fn token_here(alloc: Global, here: &[u8], at: u32) -> Result<Option<Token>, AllocError>
@@ -18,16 +19,14 @@ fn token_here(alloc: Global, here: &[u8], at: u32) -> Result<Option<Token>, Allo
         return Ok(None)
     };
     let (front, _) = here.split_at(len);
-    match Text::from_bytes(alloc, front)? {
-        Some(text) => Ok(Some(Token {
-            kind,
-            text,
-            from: at,
-            to: at + len as u32,
-        })),
-        // a token's bytes are ASCII, so they are a text
-        None => Ok(None),
-    }
+    // The bytes of a token are ASCII.
+    let text = unsafe { str::from_utf8_unchecked(front) };
+    Ok(Some(Token {
+        kind,
+        text: Text::from_str(alloc, text)?,
+        from: at,
+        to: at + len as u32,
+    }))
 }
 
 /// The tokens of a text of fewer than 2^32 bytes: at each place the longest one, with blanks and
