@@ -3,6 +3,7 @@
 ghost use Rattle.std.specs.Prelude.{◌≡◌};
 
 use super::*;
+use std::str;
 use std::test::Fail;
 
 const OPS: [BinOp; 17] = [
@@ -262,10 +263,12 @@ fn texts_about_the_border_of_short_ones(rt: HostRuntime) -> Result<(), Fail> {
         let front = long.as_bytes().split_at(len).0;
         let text = Text::from_bytes(rt.alloc(), front)?;
         assert!(rt; matches!(&text, Some(t) if t.as_bytes() == front));
-        let text = Text::from_front(rt.alloc(), long.as_bytes(), len)?;
-        assert!(rt; text.as_bytes() == front);
-        let text = Text::from_front(rt.alloc(), front, len)?;
-        assert!(rt; text.as_bytes() == front);
+        if str::from_utf8(front).is_ok() {
+            let text = Text::from_front(rt.alloc(), long.as_bytes(), len)?;
+            assert!(rt; text.as_bytes() == front);
+            let text = Text::from_front(rt.alloc(), front, len)?;
+            assert!(rt; text.as_bytes() == front);
+        }
     }
     // a character of two bytes that ends at the border, and one that crosses it
     for wide in ["abcdefghijklmné", "abcdefghijklmnoé"] {
