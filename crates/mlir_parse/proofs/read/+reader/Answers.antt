@@ -116,14 +116,20 @@ read-returns-in_ok-push-in-Ok-clause-grows t c =
     (seen c.line_rule.result.now)
     c.args.at
     c.in-Ok.next
+    c.len-before.result
+    _
+    _
     _
     _
     _
     c.line.result
+    (omega arith)
+    c.in_ok-parts-in-Ok.ensures.items
+    c.in_ok-parts-in-Ok.ensures.tail
     c.in_ok-push-in-Ok.ensures.items
     c.line.ensures
     c.line_rule.ensures.is
-    (rw c.in_ok-parts-in-Line.ensures.items at c.in-Ok.ensures.grows))
+    c.in-Ok.ensures.grows)
 
 pub read-returns-in-Ok-read-2-clause-grows : goal.read-returns-in-Ok-read-2-clause-grows
 read-returns-in-Ok-read-2-clause-grows t c =
