@@ -257,17 +257,18 @@ fn lists_and_texts_keep_their_contents(rt: HostRuntime) -> Result<(), Fail> {
 
 #[test]
 fn texts_about_the_border_of_short_ones(rt: HostRuntime) -> Result<(), Fail> {
-    let long = "%abcdefghijklmnopqrstuvwxyz0123";
-    for len in [0, 1, 29, 30, 31] {
+    let long = "%abcdefghijklmno0";
+    for len in [0, 1, 15, 16, 17] {
         let front = long.as_bytes().split_at(len).0;
         let text = Text::from_bytes(rt.alloc(), front)?;
         assert!(rt; matches!(&text, Some(t) if t.as_bytes() == front));
+        let text = Text::from_front(rt.alloc(), long.as_bytes(), len)?;
+        assert!(rt; text.as_bytes() == front);
+        let text = Text::from_front(rt.alloc(), front, len)?;
+        assert!(rt; text.as_bytes() == front);
     }
     // a character of two bytes that ends at the border, and one that crosses it
-    for wide in [
-        "abcdefghijklmnopqrstuvwxyz01é",
-        "abcdefghijklmnopqrstuvwxyz012é",
-    ] {
+    for wide in ["abcdefghijklmné", "abcdefghijklmnoé"] {
         let text = Text::from_bytes(rt.alloc(), wide.as_bytes())?;
         assert!(rt; matches!(&text, Some(t) if t.as_str() == wide));
         let cut = wide.as_bytes().split_at(wide.len() - 1).0;

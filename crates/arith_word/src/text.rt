@@ -1,4 +1,4 @@
-ghost use Rattle.std.specs.Prelude.{◌≡◌, ◌≤◌, IfOk, MatchOption, IsUtf8, length, string_bytes, Some};
+ghost use Rattle.std.specs.Prelude.{◌≡◌, ◌≤◌, IfOk, MatchOption, IsUtf8, length, take, string_bytes, Some};
 
 use Inner::*;
 use std::alloc::{AllocError, Global};
@@ -6,9 +6,9 @@ use std::marker::Model;
 use std::{fmt, str};
 
 // The longest text that lies in the value itself.
-const MAX_SHORT: usize = 30;
+const MAX_SHORT: usize = 16;
 
-/// A text that contracts see as its bytes. Up to 30 bytes take no allocation, but for those of `from_string`.
+/// A text that contracts see as its bytes. Up to 16 bytes take no allocation, but for those of `from_string`.
 #[derive(Drop)]
 pub struct Text {
     inner: Inner,
@@ -16,8 +16,8 @@ pub struct Text {
 
 #[derive(Drop)]
 enum Inner {
-    // The bytes, of which the first so many are the text.
-    Short([u8; MAX_SHORT], u8),
+    // How many of the bytes are the text. In this order both are moved as whole words.
+    Short(usize, [u8; MAX_SHORT]),
     Long(String),
 }
 
@@ -63,15 +63,42 @@ impl Text {
         }
     }
 
+    /// The text of the first `len` bytes.
+    pub fn from_front(alloc: Global, bytes: &[u8], len: usize) -> Result<Text, AllocError>
+        requires within { len ≤ length bytes.now }
+        requires utf8 { IsUtf8 (take len bytes.now) }
+        ensures { IfOk result (λ made. made ≡ take len bytes.now) }
+    {
+        if len <= MAX_SHORT {
+            // One copy of a fixed size is fast. What lies behind the text is never seen.
+            if let Some((chunk, _)) = bytes.split_first_chunk::<MAX_SHORT>() {
+                return Ok(Text::of_chunk(chunk, len));
+            }
+        }
+        let (front, _) = bytes.split_at(len);
+        Text::from_str(alloc, unsafe { str::from_utf8_unchecked(front) })
+    }
+
+    // The text of the first `len` bytes of the chunk.
+    fn of_chunk(chunk: &[u8; MAX_SHORT], len: usize) -> Text
+        requires within { len ≤ 16 }
+        requires utf8 { IsUtf8 (take len chunk.now) }
+        ensures { result ≡ take len chunk.now }
+    {
+        Text {
+            inner: Short(len, *chunk),
+        }
+    }
+
     // The text, in the value itself.
     fn short(text: &str) -> Text
-        requires { length text.now ≤ 30 }
+        requires { length text.now ≤ 16 }
         ensures { result ≡ text.now }
     {
         let mut bytes = [0; MAX_SHORT];
         bytes[..text.len()].copy_from_slice(text.as_bytes());
         Text {
-            inner: Short(bytes, text.len() as u8),
+            inner: Short(text.len(), bytes),
         }
     }
 
@@ -81,7 +108,7 @@ impl Text {
     {
         match &self.inner {
             // A `Text` holds nothing but UTF-8.
-            Short(bytes, len) => unsafe { str::from_utf8_unchecked(&bytes[..usize::from(*len)]) },
+            Short(len, bytes) => unsafe { str::from_utf8_unchecked(&bytes[..*len]) },
             Long(text) => text.as_str(),
         }
     }

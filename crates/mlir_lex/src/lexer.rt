@@ -8,7 +8,6 @@ use crate::gap::gap_len;
 use arith_word::{List, Text};
 use mlir_ir::Token;
 use std::alloc::{AllocError, Global};
-use std::str;
 
 /// The token at the front of the bytes, which begin at the place.
 fn token_here(alloc: Global, here: &[u8], at: u32) -> Result<Option<Token>, AllocError>
@@ -18,12 +17,10 @@ fn token_here(alloc: Global, here: &[u8], at: u32) -> Result<Option<Token>, Allo
     let Some((kind, len)) = token_front(here) else {
         return Ok(None)
     };
-    let (front, _) = here.split_at(len);
-    // The bytes of a token are ASCII.
-    let text = unsafe { str::from_utf8_unchecked(front) };
+    // The bytes of a token are ASCII, so they are a text.
     Ok(Some(Token {
         kind,
-        text: Text::from_str(alloc, text)?,
+        text: Text::from_front(alloc, here, len)?,
         from: at,
         to: at + len as u32,
     }))
