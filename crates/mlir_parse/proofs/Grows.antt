@@ -46,6 +46,13 @@ module _ (ts : List Terminal) where
   grows_one n c at old new b e p h =
       record { row = b ∷ []; grown = e; derived = subst (λ x. Derives ts n (one c) at x (at + 1)) (sym (p none)) (derive_one (token_at c ts at h) refl) }
 
+  -- a line whose parts were read apart
+  pub grows_parts : (n : ℕ) (f : Form) (at next : ℕ) (old parts new : List Branch) (b : Branch)
+      → new ≡ old ++ b ∷ [] → ((rest : Forest) → put b rest ≡ node f at (forest parts) rest) → Grows ts n (body f) at [] parts next → Grows ts n (line f) at old new next
+  grows_parts n f at next old parts new b e p g =
+      let shown : put b none ≡ node f at (forest g.row) none = p none ∙ ap (λ x. node f at (forest x) none) g.grown in
+      record { row = b ∷ []; grown = e; derived = subst (λ x. Derives ts n (line f) at x next) (sym shown) (derive_line g.derived) }
+
   pub grows_line : (n : ℕ) (f : Form) (r : Pattern) (at next before : ℕ) (old middle kept parts new : List Branch) (b : Branch)
       → before ≡ length old → kept ≡ take before middle → parts ≡ drop before middle → new ≡ kept ++ b ∷ []
       → ((rest : Forest) → put b rest ≡ node f at (forest parts) rest) → r ≡ body f → Grows ts n r at old middle next → Grows ts n (line f) at old new next

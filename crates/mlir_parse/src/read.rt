@@ -1,8 +1,10 @@
 ghost use Rattle.std.specs.Prelude.{◌≡◌, ◌≤◌, ◌<◌, ◌^◌, true, length, drop, IfOk};
-ghost use Rattle.mlir_ir.specs.Grammar.{one, line, both, many, region, body};
+ghost use Rattle.mlir_ir.specs.Grammar.{one, line, both, maybe, many, region, body};
 ghost use Rattle.mlir_parse.specs.Seen.{seen, AreLines, Gives, Grows, Marks, IsMarked};
 ghost use Rattle.mlir_parse.specs.Runs.{starts, is_next};
 ghost use Rattle.mlir_parse.specs.Tables.{weight, rank_line};
+ghost use Rattle.mlir_ir.specs.declared.terminal.Terminal.TheVariants.{Pick};
+ghost use Rattle.mlir_ir.specs.declared.syntax.Form.TheVariants.{TypeName, Use};
 
 use crate::fault::Fault;
 use crate::rule::{Rule, form_number, is_marked, is_same};
@@ -65,10 +67,104 @@ pub fn line_rule(lines: &[Rule], form: Form) -> &Rule
     &lines[form_number(form)]
 }
 
-/// Reads a text of the line, and adds its branch.
+/// Reads a type, and adds its branch.
+fn read_type_name(
+    alloc: Global,
+    out: &mut Vec<Branch>,
+    depth: usize,
+    tokens: &[Terminal],
+    at: usize,
+) -> Result<usize, Fault>
+    requires within { at ≤ length tokens.now }
+    requires few { length tokens.now < 2 ^ 32 }
+    ensures gives { Gives depth (line TypeName) tokens.now at result }
+    ensures grows { IfOk result (Grows tokens.now depth (line TypeName) at out.old.items out.new.items) }
+{
+    let mut parts = Vec::with_capacity(alloc, 1)?;
+    match read_one(alloc, &mut parts, Terminal::TypeWord, depth, tokens, at) {
+        Err(fault) => Err(fault),
+        Ok(next) => {
+            out.push(Branch::line(Form::TypeName, at as u32, parts))?;
+            Ok(next)
+        }
+    }
+}
+
+/// Reads the pick behind a value, if there is one, and adds its branch.
+#[tactic(auto, using(crate::proofs::Gives::gives_left, crate::proofs::Places::starts_one))]
+fn read_pick(
+    alloc: Global,
+    parts: &mut Vec<Branch>,
+    depth: usize,
+    tokens: &[Terminal],
+    at: usize,
+) -> Result<usize, Fault>
+    requires within { at ≤ length tokens.now }
+    requires few { length tokens.now < 2 ^ 32 }
+    ensures gives { Gives depth (maybe (one Pick)) tokens.now at result }
+    ensures grows { IfOk result (Grows tokens.now depth (maybe (one Pick)) at parts.old.items parts.new.items) }
+{
+    if next_is(Terminal::Pick, tokens, at) {
+        read_one(alloc, parts, Terminal::Pick, depth, tokens, at)
+    } else {
+        Ok(at)
+    }
+}
+
+/// Reads a value that is used, and adds its branch.
+fn read_use(
+    alloc: Global,
+    out: &mut Vec<Branch>,
+    depth: usize,
+    tokens: &[Terminal],
+    at: usize,
+) -> Result<usize, Fault>
+    requires within { at ≤ length tokens.now }
+    requires few { length tokens.now < 2 ^ 32 }
+    ensures gives { Gives depth (line Use) tokens.now at result }
+    ensures grows { IfOk result (Grows tokens.now depth (line Use) at out.old.items out.new.items) }
+{
+    let mut parts = Vec::with_capacity(alloc, 1)?;
+    match read_one(alloc, &mut parts, Terminal::Value, depth, tokens, at) {
+        Err(fault) => Err(fault),
+        Ok(mid) => match read_pick(alloc, &mut parts, depth, tokens, mid) {
+            Err(fault) => Err(fault),
+            Ok(next) => {
+                out.push(Branch::line(Form::Use, at as u32, parts))?;
+                Ok(next)
+            }
+        },
+    }
+}
+
+/// Reads a text of the line, and adds its branch. The two commonest lines go without their rules.
+#[cycle(reader)]
+fn read_line(
+    alloc: Global,
+    out: &mut Vec<Branch>,
+    source: &Source,
+    form: Form,
+    depth: usize,
+    at: usize,
+) -> Result<usize, Fault>
+    requires lines { AreLines source.now.lines.now }
+    requires within { at ≤ length source.now.tokens.now }
+    requires few { length source.now.tokens.now < 2 ^ 32 }
+    requires shallow { depth ≤ 12 }
+    ensures gives { Gives depth (line form) source.now.tokens.now at result }
+    ensures grows { IfOk result (Grows source.now.tokens.now depth (line form) at out.old.items out.new.items) }
+{
+    match form {
+        Form::TypeName => read_type_name(alloc, out, depth, source.tokens, at),
+        Form::Use => read_use(alloc, out, depth, source.tokens, at),
+        _ => read_by_rule(alloc, out, source, form, depth, at),
+    }
+}
+
+/// Reads a text of the line by its rule, and adds its branch.
 #[cycle(reader)]
 #[tactic(auto, using(crate::proofs::Gives::gives_line))]
-fn read_line(
+fn read_by_rule(
     alloc: Global,
     out: &mut Vec<Branch>,
     source: &Source,

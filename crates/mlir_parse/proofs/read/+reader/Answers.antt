@@ -8,12 +8,12 @@ use Rattle.mlir_parse.proofs.Gives.{gives_enough, gives_line, gives_again, found
 use Rattle.mlir_parse.proofs.Grows.{grows_nothing, grows_both, grows_left, grows_right, grows_enough, grows_again, grows_line, grows_region}
 use Rattle.mlir_parse.proofs.Ranks.{rank_le}
 
-pub read_line-returns-in_ok-push-in-Ok-clause-gives : goal.read_line-returns-in_ok-push-in-Ok-clause-gives
-read_line-returns-in_ok-push-in-Ok-clause-gives t c =
+pub read_by_rule-returns-in_ok-push-in-Ok-clause-gives : goal.read_by_rule-returns-in_ok-push-in-Ok-clause-gives
+read_by_rule-returns-in_ok-push-in-Ok-clause-gives t c =
     gives_line c.args.depth c.args.form (seen c.line_rule.result.now) c.args.source.now.tokens.now c.args.at (Ok c.in-Ok.next) c.line_rule.ensures.is c.in-Ok.ensures.gives
 
-pub read_line-returns-in_ok-push-in-Ok-clause-grows : goal.read_line-returns-in_ok-push-in-Ok-clause-grows
-read_line-returns-in_ok-push-in-Ok-clause-grows t c =
+pub read_by_rule-returns-in_ok-push-in-Ok-clause-grows : goal.read_by_rule-returns-in_ok-push-in-Ok-clause-grows
+read_by_rule-returns-in_ok-push-in-Ok-clause-grows t c =
     grows_line
     c.args.source.now.tokens.now
     c.args.depth

@@ -8,19 +8,22 @@ use Rattle.mlir_parse.specs.declared.fault.Fault.{Fault}
 
 -- a region lowers the first part, and a step into a rule the second
 abbrev pub decreases-read : goal.decreases-read
-decreases-read l = (12 - l.depth) * 2000 + (rank (seen l.rule.now) + rank (seen l.rule.now))
+decreases-read l = (12 - l.depth) * 3000 + 3 * rank (seen l.rule.now)
 
 abbrev pub decreases-read_line : goal.decreases-read_line
-decreases-read_line l = (12 - l.depth) * 2000 + (rank_line l.form + rank_line l.form + 1)
+decreases-read_line l = (12 - l.depth) * 3000 + (3 * rank_line l.form + 2)
+
+abbrev pub decreases-read_by_rule : goal.decreases-read_by_rule
+decreases-read_by_rule l = (12 - l.depth) * 3000 + (3 * rank_line l.form + 1)
 
 abbrev pub decreases-read_both : goal.decreases-read_both
-decreases-read_both l = (12 - l.depth) * 2000 + (rank (both (seen l.a.now) (seen l.b.now)) + rank (both (seen l.a.now) (seen l.b.now)) - 1)
+decreases-read_both l = (12 - l.depth) * 3000 + (3 * rank (both (seen l.a.now) (seen l.b.now)) - 1)
 
 abbrev pub decreases-read_many : goal.decreases-read_many
-decreases-read_many l = (12 - l.depth) * 2000 + (rank (seen l.rule.now) + rank (seen l.rule.now) + 1)
+decreases-read_many l = (12 - l.depth) * 3000 + (3 * rank (seen l.rule.now) + 1)
 
 abbrev pub decreases-read_region : goal.decreases-read_region
-decreases-read_region l = (12 - l.depth) * 2000 + 1
+decreases-read_region l = (12 - l.depth) * 3000 + 1
 
 abbrev pub invariant-read_many-again : goal.invariant-read_many-again
 invariant-read_many-again l =
