@@ -1,4 +1,4 @@
-use Rattle.std.proofs.Common.{sym, ◌∙◌, ◌≡◌, ◌<◌, ◌≤◌, ◌+◌, length, drop, true, arith, Ok}
+use Rattle.std.proofs.Common.{sym, ◌∙◌, ◌≤◌, arith, Ok}
 use Rattle.std.proofs.lemmas.Result.{IfOk-weaker}
 use Rattle.mlir_parse.proofs.read.+reader.Goals as goal
 use Rattle.mlir_parse.specs.Tables.{weight, rank}

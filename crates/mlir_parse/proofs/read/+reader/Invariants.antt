@@ -1,4 +1,4 @@
-use Rattle.std.proofs.Common.{◌≡◌, ℕ, ◌≤◌, ◌<◌, length, drop, ◌+◌, ◌-◌, ◌*◌, Result, List}
+use Rattle.std.proofs.Common.{ℕ, ◌≤◌, length, ◌+◌, ◌-◌, ◌*◌, Result, List}
 use Rattle.mlir_parse.proofs.read.+reader.Given as goal
 use Rattle.mlir_parse.specs.Seen.{seen, Gives, Grows}
 use Rattle.mlir_ir.specs.Grammar.{both, many}

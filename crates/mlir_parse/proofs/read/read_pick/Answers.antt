@@ -3,7 +3,7 @@ use Rattle.std.proofs.Common.{sym, ◌∙◌, drop, Ok}
 use Rattle.std.proofs.lemmas.Result.{IfOk-weaker}
 use Rattle.mlir_ir.specs.Grammar.{one, nothing}
 use Rattle.mlir_ir.specs.declared.terminal.Terminal.TheVariants.{Pick}
-use Rattle.mlir_parse.proofs.Gives.{gives_nothing, gives_left, gives_right}
+use Rattle.mlir_parse.proofs.Gives.{gives_nothing, gives_right}
 use Rattle.mlir_parse.proofs.Grows.{grows_nothing, grows_left, grows_right}
 use Rattle.mlir_parse.proofs.Places.{starts_one}
 use Rattle.mlir_parse.proofs.read.read_pick.Goals as goal
