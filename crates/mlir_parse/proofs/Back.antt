@@ -1,7 +1,7 @@
 -- What a derivation was made of.
-use Rattle.std.proofs.Common.{◌≡◌, Bool, true, false, refl, List, [], ◌∷◌, ap, ◌∙◌, sym, ◌⊎◌, inl, inr}
+use Rattle.std.proofs.Common.{◌≡◌, refl, List, ◌∷◌, ◌⊎◌, inl, inr}
 use Rattle.mlir_ir.specs.Grammar.{Pattern, nothing, one, line, both, either, many, region, body}
-use Rattle.mlir_ir.specs.Texts.{Accepts, ends, no_more, token, by_line, in_turn, left, right, again, enough, in_region}
+use Rattle.mlir_ir.specs.Texts.{Accepts, no_more, token, by_line, in_turn, left, right, again, enough, in_region}
 use Rattle.mlir_ir.specs.declared.terminal.Terminal.{Terminal}
 use Rattle.mlir_ir.specs.declared.terminal.Terminal.TheVariants.{LeftBrace, RightBrace}
 use Rattle.mlir_ir.specs.declared.syntax.Form.{Form}

@@ -1,4 +1,4 @@
-use Rattle.std.proofs.Common.{◌≡◌, ℕ, Bool, true, false, ◌||◌, ◌&&◌, not, refl, List, [], ◌∷◌, ap, ◌∙◌, sym, ◌==◌, ◌⊎◌, inl, inr, suc, zero, Option, Some, slice_get}
+use Rattle.std.proofs.Common.{◌≡◌, ℕ, Bool, true, false, ◌||◌, ◌&&◌, not, refl, List, [], ◌∷◌, ap, ◌∙◌, sym, ◌⊎◌, inl, inr, suc, zero, Some, slice_get}
 use Rattle.std.specs.List.{list_all}
 use Rattle.std.proofs.lemmas.Bool.{eqb-true}
 use Rattle.mlir_parse.specs.Tables.{terminals, forms, number, same}

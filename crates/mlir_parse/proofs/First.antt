@@ -1,14 +1,12 @@
 -- What a text may begin with.
-use Rattle.std.proofs.Common.{◌≡◌, Bool, true, false, ◌||◌, ◌&&◌, refl, List, [], ◌∷◌, ap, ◌∙◌, sym}
+use Rattle.std.proofs.Common.{◌≡◌, Bool, true, false, ◌||◌, ◌&&◌, refl, List, [], ◌∷◌}
 use Rattle.std.specs.List.{list_all}
-use Rattle.mlir_parse.specs.Tables.{terminals, forms, same, first, empty, first_line, empty_line}
-use Rattle.mlir_ir.specs.Grammar.{Pattern, nothing, one, line, both, either, many, region, body}
+use Rattle.mlir_parse.specs.Tables.{terminals, first, empty, first_line, empty_line}
+use Rattle.mlir_ir.specs.Grammar.{Pattern, body}
 use Rattle.mlir_ir.specs.Texts.{Accepts, ends, no_more, token, by_line, in_turn, left, right, again, enough, in_region}
-use Rattle.mlir_parse.proofs.Bools.{every_terminal, every_form, agree, agree_is, same_self, in_turn_true, left_true, right_true, again_true, enough_true, both_true, and_left, and_right}
+use Rattle.mlir_parse.proofs.Bools.{every_terminal, every_form, agree, agree_is, same_self, in_turn_true, left_true, right_true, again_true, enough_true, and_right}
 use Rattle.mlir_ir.specs.declared.terminal.Terminal.{Terminal}
-use Rattle.mlir_ir.specs.declared.terminal.Terminal.TheVariants.{Module, Function, Private, TypeWord, Return, Constant, Truth, Binary, FlaggedBinary, Cast, FlaggedCast, Compare, Predicate, Select, Call, If, Else, For, To, Step, IterArgs, While, Condition, Do, Yield, Overflow, Nsw, Nuw, OtherWord, Value, Symbol, Caret, Pick, Decimal, Hexadecimal, LeftParen, RightParen, LeftBrace, RightBrace, Less, Greater, Comma, Colon, Equals, Arrow, Minus}
 use Rattle.mlir_ir.specs.declared.syntax.Form.{Form}
-use Rattle.mlir_ir.specs.declared.syntax.Form.TheVariants.{Whole, Func, Params, Types, Results, TypeName, Body, Ends, Uses, Use, Op, Pack, Kind, Inits, Region, Flags}
 
 abbrev pub firsts : List Pattern → Terminal → Bool
 firsts [] c = false

@@ -1,7 +1,7 @@
 -- One token decides, whatever stands on the stack.
-use Rattle.std.proofs.Common.{◌≡◌, Bool, true, false, ◌||◌, ◌&&◌, not, refl, List, [], ◌∷◌, ap, ◌∙◌, sym}
+use Rattle.std.proofs.Common.{◌≡◌, Bool, true, false, ◌||◌, ◌&&◌, not, refl, List, [], ◌∷◌}
 use Rattle.std.specs.List.{list_all}
-use Rattle.mlir_parse.specs.Tables.{terminals, forms, same, first, empty, follow, decides}
+use Rattle.mlir_parse.specs.Tables.{terminals, same, first, empty, follow, decides}
 use Rattle.mlir_ir.specs.Grammar.{Pattern, nothing, one, line, both, either, many, region, body}
 use Rattle.mlir_parse.proofs.Bools.{every_terminal, every_form, and_left, and_right, more_true, less_false, implied, apart, not_true}
 use Rattle.mlir_parse.proofs.First.{firsts}

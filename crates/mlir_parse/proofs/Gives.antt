@@ -1,6 +1,6 @@
 -- The steps of a run, by places.
-use Rattle.std.proofs.Common.{suc, zero, ◌≡◌, ℕ, ◌+◌, ◌-◌, ◌<◌, ◌≤◌, Bool, true, false, ◌||◌, ◌&&◌, refl, List, [], ◌∷◌, ◌++◌, length, drop, get_or, ap, ◌∙◌, sym, subst, arith, drop-cons, add-one, length-drop, Result, Ok, Err, IsTrue, inl, inr}
-use Rattle.mlir_parse.specs.Tables.{same, first, empty}
+use Rattle.std.proofs.Common.{suc, zero, ◌≡◌, ℕ, ◌+◌, ◌<◌, ◌≤◌, Bool, true, false, ◌||◌, ◌&&◌, refl, List, [], ◌∷◌, length, drop, ap, ◌∙◌, sym, subst, arith, add-one, length-drop, Result, Ok, Err, inl, inr}
+use Rattle.mlir_parse.specs.Tables.{same, empty}
 use Rattle.mlir_ir.specs.Grammar.{Pattern, nothing, one, line, both, either, many, region, body}
 use Rattle.mlir_parse.specs.Runs.{Outcome, Done, Stop, Deep, Fails, starts, is_next, Runs, run_nothing, run_one, run_other, run_line, run_both, run_both_fails, run_left, run_right, run_enough, run_again, run_again_fails, run_no_brace, run_too_deep, run_region}
 use Rattle.mlir_parse.specs.Seen.{Gives}

@@ -1,5 +1,5 @@
 -- The branches that each step of the reader adds.
-use Rattle.std.proofs.Common.{suc, zero, ◌≡◌, ℕ, ◌+◌, ◌<◌, true, List, [], ◌∷◌, ◌++◌, refl, ap, ◌∙◌, sym, subst, take, drop, length, Some, slice_get, arith}
+use Rattle.std.proofs.Common.{suc, zero, ◌≡◌, ℕ, ◌+◌, ◌<◌, true, List, [], ◌∷◌, ◌++◌, refl, ap, ◌∙◌, sym, subst, take, drop, length, Some, slice_get}
 use Rattle.std.proofs.lemmas.List.{append-nil, append_assoc}
 use Rattle.std.proofs.Math.Seq.{take-append_seam, drop-append_seam}
 use Rattle.mlir_ir.specs.Grammar.{Pattern, nothing, one, line, both, either, many, region, body}
@@ -46,12 +46,19 @@ module _ (ts : List Terminal) where
   grows_one n c at old new b e p h =
       record { row = b ∷ []; grown = e; derived = subst (λ x. Derives ts n (one c) at x (at + 1)) (sym (p none)) (derive_one (token_at c ts at h) refl) }
 
-  pub grows_line : (n : ℕ) (f : Form) (r : Pattern) (at next : ℕ) (old middle kept parts new : List Branch) (b : Branch)
-      → kept ≡ take (length old) middle → parts ≡ drop (length old) middle → new ≡ kept ++ b ∷ []
+  -- a line whose parts were read apart
+  pub grows_parts : (n : ℕ) (f : Form) (at next : ℕ) (old parts new : List Branch) (b : Branch)
+      → new ≡ old ++ b ∷ [] → ((rest : Forest) → put b rest ≡ node f at (forest parts) rest) → Grows ts n (body f) at [] parts next → Grows ts n (line f) at old new next
+  grows_parts n f at next old parts new b e p g =
+      let shown : put b none ≡ node f at (forest g.row) none = p none ∙ ap (λ x. node f at (forest x) none) g.grown in
+      record { row = b ∷ []; grown = e; derived = subst (λ x. Derives ts n (line f) at x next) (sym shown) (derive_line g.derived) }
+
+  pub grows_line : (n : ℕ) (f : Form) (r : Pattern) (at next before : ℕ) (old middle kept parts new : List Branch) (b : Branch)
+      → before ≡ length old → kept ≡ take before middle → parts ≡ drop before middle → new ≡ kept ++ b ∷ []
       → ((rest : Forest) → put b rest ≡ node f at (forest parts) rest) → r ≡ body f → Grows ts n r at old middle next → Grows ts n (line f) at old new next
-  grows_line n f r at next old middle kept parts new b front back e p k g =
-      let same_front : kept ≡ old = front ∙ ap (take (length old)) g.grown ∙ take-append_seam old g.row in
-      let same_back : parts ≡ g.row = back ∙ ap (drop (length old)) g.grown ∙ drop-append_seam old g.row in
+  grows_line n f r at next before old middle kept parts new b count front back e p k g =
+      let same_front : kept ≡ old = front ∙ ap (λ x. take x middle) count ∙ ap (take (length old)) g.grown ∙ take-append_seam old g.row in
+      let same_back : parts ≡ g.row = back ∙ ap (λ x. drop x middle) count ∙ ap (drop (length old)) g.grown ∙ drop-append_seam old g.row in
       let shown : put b none ≡ node f at (forest g.row) none = p none ∙ ap (λ x. node f at (forest x) none) same_back in
       record {
         row = b ∷ [];

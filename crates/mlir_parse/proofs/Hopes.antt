@@ -1,14 +1,13 @@
 -- Whether tokens begin some text, and which names could stand behind them.
-use Rattle.std.proofs.Common.{suc, zero, ◌≡◌, ℕ, ◌+◌, ◌-◌, ◌<◌, ◌≤◌, Bool, true, false, List, [], ◌∷◌, ◌++◌, length, take, drop, refl, ap, ◌∙◌, sym, subst, arith, append_assoc, add-one, Some, slice_get, ◌⊎◌, inl, inr, length-append, ◌==◌, not, get_or, MatchBool}
+use Rattle.std.proofs.Common.{suc, zero, ◌≡◌, ℕ, ◌+◌, ◌-◌, ◌<◌, ◌≤◌, Bool, true, false, List, [], ◌∷◌, ◌++◌, length, take, drop, refl, ap, ◌∙◌, sym, subst, arith, append_assoc, add-one, Some, slice_get, inl, inr, length-append, ◌==◌, not, get_or, MatchBool}
 use Rattle.std.proofs.lemmas.Bool.{cases_Bool, cases_lt, eqb-true, eqb-false, both_ways, not-true}
-use Rattle.std.proofs.lemmas.List.{take_all, append-nil}
+use Rattle.std.proofs.lemmas.List.{take_all, append-nil, take-append-drop, take-append-le}
+use Rattle.std.proofs.lemmas.Option.{slice_get-get_or, slice_get_within}
 use Rattle.std.proofs.Math.Seq.{drop-length}
-use Rattle.mlir_ir.specs.Grammar.{line}
 use Rattle.mlir_ir.specs.Texts.{Accepts, ends, IsText, BeginsText, IsSyntaxFault, IsTooDeep, IsShallow, opens, closes, is_module, step, opened, regions, names, is_unnamed, NameCouldStand, IsNotHere, IsOtherFault}
 use Rattle.mlir_ir.specs.Trees.{Forest, IsTreeOf}
 use Rattle.mlir_ir.specs.declared.terminal.Terminal.{Terminal}
 use Rattle.mlir_ir.specs.declared.terminal.Terminal.TheVariants.{LeftBrace}
-use Rattle.mlir_ir.specs.declared.syntax.Form.TheVariants.{Whole}
 use Rattle.mlir_parse.proofs.Unique.{derives_accepts}
 use Rattle.mlir_parse.proofs.Bools.{passes}
 
@@ -20,15 +19,10 @@ tree_text ts xs d = derives_accepts d [] (subst (λ (z : List Terminal). Accepts
 pub begins_of_tree : (ts : List Terminal) (xs : Forest) → IsTreeOf ts xs → BeginsText ts
 begins_of_tree ts xs d = ([], subst IsText (sym (append-nil ts)) (tree_text ts xs d))
 
-take_drop : (k : ℕ) (ts : List Terminal) → take k ts ++ drop k ts ≡ ts
-take_drop zero ts = refl
-take_drop (suc k) [] = refl
-take_drop (suc k) (c ∷ ts) = ap (λ z. c ∷ z) (take_drop k ts)
-
 -- the front of a front begins the same text
 pub take_begins : (ts : List Terminal) (k : ℕ) → BeginsText ts → BeginsText (take k ts)
 take_begins ts k (more, text) =
-    (drop k ts ++ more, subst IsText (ap (λ z. z ++ more) (sym (take_drop k ts)) ∙ append_assoc (take k ts) (drop k ts) more) text)
+    (drop k ts ++ more, subst IsText (ap (λ z. z ++ more) (sym (take-append-drop k ts)) ∙ append_assoc (take k ts) (drop k ts) more) text)
 
 -- an unfinished text begins one
 pub begins_at_end : (ts : List Terminal) (k : ℕ) → IsSyntaxFault ts k → k ≡ length ts → BeginsText ts
@@ -94,11 +88,6 @@ regions_flat (c ∷ x) t flat =
           rw other (omega (arith, after, low))
     ]
 
-take_front : (x y : List Terminal) (k : ℕ) → k ≤ length x → take k (x ++ y) ≡ take k x
-take_front x y zero h = refl
-take_front [] y (suc k) h = absurd (omega arith)
-take_front (c ∷ x) y (suc k) h = ap (λ z. c ∷ z) (take_front x y k (omega arith))
-
 -- a token that opens no brace keeps the tokens shallow
 pub shallow_more : (x : List Terminal) (t : Terminal) → opens t ≡ false → IsShallow x → IsShallow (x ++ t ∷ [])
 shallow_more x t flat shallow k =
@@ -108,7 +97,7 @@ shallow_more x t flat shallow k =
           let all : take (length x) x ≡ x = take_all (length x) x (omega arith) in
           let most : regions (take (length x) x) ≤ 12 = shallow (length x) in
           omega (arith, ap regions whole, ap regions all, low, most)
-      | inr within ↦ let front : take k (x ++ t ∷ []) ≡ take k x = take_front x (t ∷ []) k within in
+      | inr within ↦ let front : take k (x ++ t ∷ []) ≡ take k x = take-append-le k x (t ∷ []) within in
           let most : regions (take k x) ≤ 12 = shallow k in
           omega (arith, ap regions front, most)
     ]
@@ -126,26 +115,13 @@ pub begins_deep : (ts : List Terminal) (k : ℕ) → IsTooDeep ts k → IsShallo
 begins_deep ts k deep shallow = absurd (deep_not_shallow ts k deep shallow)
 
 get_here : (ts : List Terminal) (at : ℕ) (w : Terminal) → at < length ts → w ≡ get_or ts at w → slice_get ts at ≡ Some w
-get_here [] at w within here = absurd (omega arith)
-get_here (c ∷ ts) zero w within here = ap Some (sym here)
-get_here (c ∷ ts) (suc at) w within here = get_here ts at w (omega arith) here
-
-get_none : (ts : List Terminal) (at : ℕ) (w : Terminal) → length ts ≤ at → slice_get ts at ≡ Some w → ⊥
-get_none [] zero w end here = cc
-get_none [] (suc at) w end here = cc
-get_none (c ∷ ts) zero w end here = omega (arith, end)
-get_none (c ∷ ts) (suc at) w end here = get_none ts at w (omega arith) here
-
-get_at : (ts : List Terminal) (at : ℕ) (d : Terminal) → at < length ts → slice_get ts at ≡ Some (get_or ts at d)
-get_at [] at d within = absurd (omega arith)
-get_at (c ∷ ts) zero d within = refl
-get_at (c ∷ ts) (suc at) d within = get_at ts at d (omega arith)
+get_here ts at w within here = slice_get-get_or ts at w within ∙ ap Some (sym here)
 
 -- a word that names nothing: whether it is not here is whether a name could stand
 pub not_here_by : (ts : List Terminal) (at : ℕ) (d : Terminal) (could : Bool) → IsSyntaxFault ts at → at < length ts → is_unnamed (get_or ts at d) ≡ true
     → MatchBool could (NameCouldStand (take at ts)) (NameCouldStand (take at ts) → ⊥) → MatchBool could (IsNotHere ts at) (IsOtherFault ts at)
 not_here_by ts at d true fault within unnamed could =
-    record { fault = fault; word = get_or ts at d; here = get_at ts at d within; unnamed = unnamed; could = could }
+    record { fault = fault; word = get_or ts at d; here = slice_get-get_or ts at d within; unnamed = unnamed; could = could }
 not_here_by ts at d false fault within unnamed could = record { fault = fault; other = λ h. could h.could }
 
 -- a token that names something, or is no word
@@ -161,7 +137,7 @@ other_named ts at w fault within here named =
 
 -- the end is no word
 pub other_end : (ts : List Terminal) (at : ℕ) → IsSyntaxFault ts at → length ts ≤ at → IsOtherFault ts at
-other_end ts at fault end = record { fault = fault; other = λ h. get_none ts at h.word end h.here }
+other_end ts at fault end = record { fault = fault; other = λ h. omega (arith, end, slice_get_within ts at h.word h.here) }
 
 -- names open no brace
 pub name_flat : (i : ℕ) (t : Terminal) → slice_get names i ≡ Some t → opens t ≡ false
@@ -176,7 +152,7 @@ none_more ts n d inside below last i less t is begun =
     elim (cases_lt i n) [
       | inl earlier ↦ below i earlier t is begun
       | inr later ↦ let same : i ≡ n = omega arith in
-          let both : Some t ≡ Some (get_or names n d) = sym is ∙ ap (slice_get names) same ∙ get_at names n d inside in
+          let both : Some t ≡ Some (get_or names n d) = sym is ∙ ap (slice_get names) same ∙ slice_get-get_or names n d inside in
           let one_name : t ≡ get_or names n d = cc in
           last (subst (λ z. BeginsText (ts ++ z ∷ [])) one_name begun)
     ]
@@ -184,4 +160,4 @@ none_more ts n d inside below last i less t is begun =
 -- no name could stand
 pub none_could : (ts : List Terminal) → ((i : ℕ) → i < 17 → (t : Terminal) → slice_get names i ≡ Some t → BeginsText (ts ++ t ∷ []) → ⊥) → NameCouldStand ts → ⊥
 none_could ts none (i, t, is, begun) =
-    elim (cases_lt i 17) [ inl within ↦ none i within t is begun | inr beyond ↦ get_none names i t beyond is ]
+    elim (cases_lt i 17) [ inl within ↦ none i within t is begun | inr beyond ↦ omega (arith, beyond, slice_get_within names i t is) ]

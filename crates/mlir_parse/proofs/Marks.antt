@@ -1,5 +1,5 @@
 -- What the marks say.
-use Rattle.std.proofs.Common.{◌≡◌, ℕ, Bool, List, map, Option, Some, None, ap, ◌∙◌, sym, slice_get, option_map}
+use Rattle.std.proofs.Common.{◌≡◌, Bool, List, Some, ap, ◌∙◌, slice_get, option_map}
 use Rattle.std.proofs.lemmas.Option.{slice_get-map}
 use Rattle.mlir_ir.specs.Grammar.{Pattern}
 use Rattle.mlir_ir.specs.declared.terminal.Terminal.{Terminal}

@@ -1,12 +1,12 @@
 -- No other way could go on.
-use Rattle.std.proofs.Common.{◌≡◌, ℕ, ◌<◌, ◌≤◌, Bool, true, false, ◌||◌, ◌&&◌, refl, List, [], ◌∷◌, ◌++◌, ap, ◌∙◌, sym, subst, ◌⊎◌, inl, inr, append_assoc, Option, Some, None}
+use Rattle.std.proofs.Common.{◌≡◌, ℕ, Bool, true, false, ◌||◌, ◌&&◌, refl, List, [], ◌∷◌, ◌++◌, ap, ◌∙◌, sym, subst, inl, inr, append_assoc, Option, Some, None}
 use Rattle.mlir_parse.specs.Tables.{same, first, empty}
-use Rattle.mlir_ir.specs.Grammar.{Pattern, nothing, one, line, both, either, many, region, body}
+use Rattle.mlir_ir.specs.Grammar.{Pattern, one, line, both, either, many, region, body}
 use Rattle.mlir_ir.specs.Texts.{Accepts, in_turn}
 use Rattle.mlir_parse.specs.Runs.{Outcome, Done, Stop, Deep, Fails, starts, is_next, Runs, run_nothing, run_one, run_other, run_line, run_both, run_both_fails, run_left, run_right, run_enough, run_again, run_again_fails, run_no_brace, run_too_deep, run_region}
 use Rattle.mlir_parse.proofs.Bools.{same_self, and_left}
 use Rattle.mlir_parse.proofs.First.{firsts, empties, first_of, empties_of}
-use Rattle.mlir_parse.proofs.Fits.{Good, Fits, fits_line, fits_deep}
+use Rattle.mlir_parse.proofs.Fits.{Fits, fits_line, fits_deep}
 use Rattle.mlir_parse.proofs.Back.{of_nothing, of_one, of_line, of_both, of_either, of_many, of_deep}
 use Rattle.mlir_ir.specs.declared.terminal.Terminal.{Terminal}
 use Rattle.mlir_ir.specs.declared.terminal.Terminal.TheVariants.{LeftBrace, RightBrace}

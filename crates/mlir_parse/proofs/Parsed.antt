@@ -1,14 +1,12 @@
 -- What the parts of the parser say of a text.
-use Rattle.std.proofs.Common.{◌≡◌, ℕ, ◌<◌, ◌≤◌, ◌^◌, List, length, map, refl, ap, ◌∙◌, sym, subst, arith}
+use Rattle.std.proofs.Common.{◌≡◌, ℕ, ◌<◌, ◌≤◌, List, length, map, refl, ap, ◌∙◌, subst, arith}
 use Rattle.std.proofs.lemmas.List.{length-map}
 use Rattle.mlir_ir.specs.Tokens.{AreTokens}
 use Rattle.mlir_ir.specs.Terminals.{terminal_of}
-use Rattle.mlir_ir.specs.Texts.{IsNotHere, IsOtherFault, IsTooDeep}
 use Rattle.mlir_ir.specs.Trees.{IsTreeOf, put, none}
-use Rattle.mlir_ir.specs.Syntaxes.{IsSyntaxOf, StandsFor, place_of}
+use Rattle.mlir_ir.specs.Syntaxes.{IsSyntaxOf, place_of}
 use Rattle.mlir_ir.specs.declared.token.Token.{Token}
 use Rattle.mlir_ir.specs.declared.syntax.Syntax.{Syntax}
-use Rattle.mlir_ir.specs.declared.syntax.Branch.{Branch}
 use Rattle.mlir_ir.specs.declared.terminal.Terminal.{Terminal}
 use Rattle.mlir_ir.proofs.TokenLaws.{token_count}
 use Rattle.mlir_parse.specs.Refused.{IsFaultAt}

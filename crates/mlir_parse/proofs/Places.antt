@@ -1,7 +1,7 @@
-use Rattle.std.proofs.Common.{suc, ◌≡◌, ℕ, ◌+◌, ◌<◌, ◌≤◌, Bool, true, false, refl, List, [], ◌∷◌, length, drop, get_or, ap, ◌∙◌, sym, arith, drop-cons, add-one}
+use Rattle.std.proofs.Common.{suc, ◌≡◌, ℕ, ◌+◌, ◌<◌, ◌≤◌, false, refl, List, [], ◌∷◌, length, drop, get_or, ap, ◌∙◌, sym, drop-cons, add-one}
 use Rattle.std.proofs.Math.ListN.{drop_of_length-le}
 use Rattle.mlir_parse.specs.Tables.{same, first}
-use Rattle.mlir_ir.specs.Grammar.{Pattern}
+use Rattle.mlir_ir.specs.Grammar.{Pattern, one}
 use Rattle.mlir_parse.specs.Runs.{starts, is_next}
 use Rattle.mlir_ir.specs.declared.terminal.Terminal.{Terminal}
 
@@ -19,3 +19,7 @@ next_here d ts at c h e = ap (is_next d) (cut ts at c h e)
 
 pub next_none : (d : Terminal) (ts : List Terminal) (at : ℕ) → length ts ≤ at → is_next d (drop at ts) ≡ false
 next_none d ts at h = ap (is_next d) (drop_of_length-le ts h)
+
+pub starts_one : (d : Terminal) (ts : List Terminal) → starts (one d) ts ≡ is_next d ts
+starts_one d [] = refl
+starts_one d (c ∷ ts) = refl

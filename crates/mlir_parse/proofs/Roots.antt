@@ -1,7 +1,7 @@
 -- What a run over the whole tokens gives: the tree, or the fault.
-use Rattle.std.proofs.Common.{◌≡◌, ℕ, ◌<◌, ◌≤◌, List, [], ◌∷◌, length, drop, refl, ap, ◌∙◌, sym, subst, arith, Ok, Err}
-use Rattle.mlir_ir.specs.Grammar.{Pattern, line, body}
-use Rattle.mlir_ir.specs.Texts.{IsSyntaxFault, IsTooDeep}
+use Rattle.std.proofs.Common.{◌≡◌, ℕ, ◌<◌, ◌≤◌, List, [], length, drop, sym, subst, arith, Ok, Err}
+use Rattle.mlir_ir.specs.Grammar.{Pattern, body}
+use Rattle.mlir_ir.specs.Texts.{IsSyntaxFault}
 use Rattle.mlir_ir.specs.Trees.{Forest, none, node, put, forest, Derives, IsTreeOf, derive_line}
 use Rattle.mlir_ir.specs.declared.terminal.Terminal.{Terminal}
 use Rattle.mlir_ir.specs.declared.syntax.Form.TheVariants.{Whole}

@@ -1,5 +1,5 @@
 -- The table of the lines.
-use Rattle.std.proofs.Common.{◌≡◌, ℕ, ◌<◌, List, [], ◌∷◌, length, subst, sym, slice_index_or, lit<}
+use Rattle.std.proofs.Common.{◌≡◌, ◌<◌, List, [], ◌∷◌, length, subst, sym, slice_index_or, lit<}
 use Rattle.mlir_ir.specs.Grammar.{body}
 use Rattle.mlir_parse.specs.Tables.{form_at}
 use Rattle.mlir_parse.specs.Seen.{Stands, AreLines}

@@ -1,8 +1,7 @@
 -- How many regions are open behind what a run over a whole text has read.
-use Rattle.std.proofs.Common.{suc, zero, ◌≡◌, ℕ, ◌+◌, ◌-◌, ◌<◌, ◌≤◌, Bool, true, false, ◌||◌, ◌&&◌, not, List, [], ◌∷◌, ◌++◌, length, take, refl, ap, ◌∙◌, sym, subst, arith, append_assoc, ◌⊎◌, inl, inr}
-use Rattle.std.proofs.lemmas.Bool.{both_ways}
-use Rattle.mlir_ir.specs.Grammar.{Pattern, nothing, one, line, both, either, many, region, body, maybe, ◌~◌}
-use Rattle.mlir_ir.specs.Texts.{opens, closes, is_module, step, opened, regions, IsShallow}
+use Rattle.std.proofs.Common.{suc, zero, ◌≡◌, ℕ, ◌-◌, Bool, true, false, ◌||◌, ◌&&◌, List, [], ◌∷◌, ◌++◌, refl, ap, ◌∙◌, sym, subst, arith, append_assoc, ◌⊎◌, inl, inr}
+use Rattle.mlir_ir.specs.Grammar.{Pattern, nothing, one, line, both, either, many, body, maybe, ◌~◌}
+use Rattle.mlir_ir.specs.Texts.{is_module, regions, IsShallow}
 use Rattle.mlir_ir.specs.declared.terminal.Terminal.{Terminal}
 use Rattle.mlir_ir.specs.declared.terminal.Terminal.TheVariants.{Module, Function, Symbol, LeftBrace, RightBrace}
 use Rattle.mlir_ir.specs.declared.syntax.Form.{Form}
@@ -10,7 +9,7 @@ use Rattle.mlir_ir.specs.declared.syntax.Form.TheVariants.{Whole, Func}
 use Rattle.mlir_parse.specs.Tables.{first, same}
 use Rattle.mlir_parse.specs.Runs.{Outcome, Done, Stop, Deep, Fails, starts, Runs, run_nothing, run_line, run_both, run_both_fails, run_left, run_right}
 use Rattle.mlir_parse.proofs.Bools.{same_is}
-use Rattle.mlir_parse.proofs.Levels.{Level, LevelOf, level, level-append, level_within, level_ends, level_weaker, level_shift, of_run_one}
+use Rattle.mlir_parse.proofs.Levels.{Level, LevelOf, level, level-append, level_within, level_ends, level_shift, of_run_one}
 
 of_run_both : {n : ℕ} {a b : Pattern} {ts : List Terminal} {o : Outcome} → Runs n (both a b) ts o
     → ((us : List Terminal) × Runs n a ts (Done us) × Runs n b us o) ⊎ (Runs n a ts o × Fails o)

@@ -1,7 +1,7 @@
 -- At most one tree derives the tokens.
-use Rattle.std.proofs.Common.{suc, zero, ◌≡◌, ℕ, ◌+◌, ◌≤◌, ◌<◌, Bool, true, false, ◌||◌, ◌&&◌, List, [], ◌∷◌, ◌++◌, refl, ap, ◌∙◌, sym, subst, drop, length, Option, Some, None, slice_get, arith, add-one}
+use Rattle.std.proofs.Common.{suc, zero, ◌≡◌, ℕ, Bool, true, false, ◌||◌, ◌&&◌, List, [], ◌∷◌, refl, ap, ◌∙◌, sym, subst, drop, length, Some, slice_get, add-one}
 use Rattle.std.proofs.Math.Seq.{drop-length}
-use Rattle.mlir_ir.specs.Grammar.{Pattern, nothing, one, line, both, either, many, region, body}
+use Rattle.mlir_ir.specs.Grammar.{Pattern, one, both, many}
 use Rattle.mlir_parse.specs.Tables.{first, empty}
 use Rattle.mlir_ir.specs.Texts.{Accepts, ends, no_more, token, by_line, in_turn, left, right, again, enough, in_region}
 use Rattle.mlir_ir.specs.Trees.{Forest, none, node, join, Derives, IsTreeOf, derive_nothing, derive_one, derive_line, derive_both, derive_left, derive_right, derive_again, derive_enough, derive_region}
@@ -10,9 +10,7 @@ use Rattle.mlir_parse.proofs.First.{firsts, empties, first_of, empties_of}
 use Rattle.mlir_parse.proofs.Fits.{Fits, fits_whole, fits_line, fits_deep}
 use Rattle.mlir_parse.proofs.Back.{of_both, of_one}
 use Rattle.mlir_ir.specs.declared.terminal.Terminal.{Terminal}
-use Rattle.mlir_ir.specs.declared.terminal.Terminal.TheVariants.{LeftBrace, RightBrace}
-use Rattle.mlir_ir.specs.declared.syntax.Form.{Form}
-use Rattle.mlir_ir.specs.declared.syntax.Form.TheVariants.{Whole}
+use Rattle.mlir_ir.specs.declared.terminal.Terminal.TheVariants.{LeftBrace}
 
 pub token_here : (ts : List Terminal) (at : ℕ) (c : Terminal) → slice_get ts at ≡ Some c → drop at ts ≡ c ∷ drop (suc at) ts
 token_here [] at c e = cc

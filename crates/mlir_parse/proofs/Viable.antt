@@ -1,7 +1,7 @@
 -- What was read begins some text.
-use Rattle.std.proofs.Common.{◌≡◌, ℕ, suc, zero, Bool, true, false, ◌||◌, ◌&&◌, refl, List, [], ◌∷◌, ◌++◌, ap, ◌∙◌, sym, subst, append_assoc}
+use Rattle.std.proofs.Common.{◌≡◌, ℕ, suc, zero, Bool, true, false, ◌&&◌, refl, List, [], ◌∷◌, ◌++◌, ap, ◌∙◌, sym, subst, append_assoc}
 use Rattle.mlir_ir.specs.Grammar.{Pattern, nothing, one, line, both, either, many, region, body}
-use Rattle.mlir_ir.specs.Texts.{Accepts, ends, no_more, token, by_line, in_turn, left, right, again, enough, in_region}
+use Rattle.mlir_ir.specs.Texts.{Accepts, no_more, token, by_line, in_turn, left, right, again, enough, in_region}
 use Rattle.mlir_parse.specs.Runs.{Outcome, Done, Stop, Deep, Fails, Runs, run_nothing, run_one, run_other, run_line, run_both, run_both_fails, run_left, run_right, run_enough, run_again, run_again_fails, run_no_brace, run_too_deep, run_region}
 use Rattle.mlir_parse.proofs.Back.{of_both}
 use Rattle.mlir_parse.proofs.Bools.{and_left, and_right, every_form}

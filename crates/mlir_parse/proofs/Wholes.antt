@@ -1,9 +1,9 @@
 -- What a run over the whole text says.
-use Rattle.std.proofs.Common.{suc, zero, ◌≡◌, ℕ, ◌+◌, ◌-◌, ◌<◌, ◌≤◌, Bool, true, false, refl, List, [], ◌∷◌, ◌++◌, length, drop, take, get_or, ap, ◌∙◌, sym, subst, arith, add-one, length-drop, length-append, Option, Some, None, append_assoc, slice_get, ◌⊎◌}
-use Rattle.std.proofs.lemmas.List.{take_at, drop_all, append-nil}
-use Rattle.mlir_ir.specs.Grammar.{Pattern, line, body}
+use Rattle.std.proofs.Common.{suc, zero, ◌≡◌, ℕ, ◌+◌, ◌<◌, ◌≤◌, refl, List, [], ◌∷◌, ◌++◌, length, drop, take, ap, ◌∙◌, sym, subst, arith, length-drop, length-append, Some, append_assoc, slice_get}
+use Rattle.std.proofs.lemmas.List.{take_at, drop_all}
+use Rattle.mlir_ir.specs.Grammar.{line, body}
 use Rattle.mlir_ir.specs.Texts.{Accepts, ends, IsText, BeginsText, IsSyntaxFault, IsTooDeep, IsShallow, regions}
-use Rattle.mlir_parse.specs.Runs.{Outcome, Done, Stop, Deep, Runs, run_line}
+use Rattle.mlir_parse.specs.Runs.{Done, Stop, Deep, Runs, run_line}
 use Rattle.mlir_parse.proofs.Only.{only, next}
 use Rattle.mlir_parse.proofs.Fits.{fits_whole}
 use Rattle.mlir_parse.proofs.Viable.{viable}

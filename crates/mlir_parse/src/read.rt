@@ -1,13 +1,22 @@
-ghost use Rattle.std.specs.Prelude.{◌≡◌, ◌≤◌, ◌<◌, ◌^◌, length, drop, IfOk};
-ghost use Rattle.mlir_ir.specs.Grammar.{many, one, body};
+ghost use Rattle.std.specs.Prelude.{◌≡◌, ◌≤◌, ◌<◌, ◌^◌, true, length, drop, IfOk};
+ghost use Rattle.mlir_ir.specs.Grammar.{one, line, both, maybe, many, region, body};
 ghost use Rattle.mlir_parse.specs.Seen.{seen, AreLines, Gives, Grows, Marks, IsMarked};
 ghost use Rattle.mlir_parse.specs.Runs.{starts, is_next};
-ghost use Rattle.mlir_parse.specs.Tables.{weight};
+ghost use Rattle.mlir_parse.specs.Tables.{weight, rank_line};
+ghost use Rattle.mlir_ir.specs.declared.terminal.Terminal.TheVariants.{Pick};
+ghost use Rattle.mlir_ir.specs.declared.syntax.Form.TheVariants.{TypeName, Use};
 
 use crate::fault::Fault;
 use crate::rule::{Rule, form_number, is_marked, is_same};
 use mlir_ir::{Branch, Form, Terminal};
 use std::alloc::Global;
+
+/// The lines of the grammar, and the tokens that are read by them.
+#[derive(Clone, Copy)]
+pub struct Source<'a> {
+    pub lines: &'a [Rule],
+    pub tokens: &'a [Terminal],
+}
 
 /// Whether a text of the rule, which has these marks, may begin at the place.
 #[tactic(auto, using(crate::proofs::Places::starts_here, crate::proofs::Places::starts_none))]
@@ -49,39 +58,6 @@ fn read_one(
     }
 }
 
-/// Reads texts of the rule as long as one may begin, and adds their branches.
-#[cycle(reader)]
-#[tactic(auto, using(crate::proofs::Gives::gives_again, crate::proofs::Gives::gives_again_fails, crate::proofs::Gives::gives_enough, crate::proofs::Gives::goes_on))]
-fn read_many(
-    alloc: Global,
-    out: &mut Vec<Branch>,
-    lines: &[Rule],
-    rule: &Rule,
-    marks: &Vec<bool>,
-    depth: usize,
-    tokens: &[Terminal],
-    at: usize,
-) -> Result<usize, Fault>
-    requires lines { AreLines lines.now }
-    requires small { weight (seen rule.now) < 1000 }
-    requires within { at ≤ length tokens.now }
-    requires few { length tokens.now < 2 ^ 32 }
-    requires shallow { depth ≤ 12 }
-    requires marked { IsMarked rule.now }
-    requires marks { Marks marks.now.items (seen rule.now) }
-    ensures gives { Gives depth (many (seen rule.now)) tokens.now at result }
-    ensures grows { IfOk result (Grows tokens.now depth (many (seen rule.now)) at out.old.items out.new.items) }
-{
-    let mut here = at;
-    'again: while may_begin(rule, marks, tokens, here) {
-        match read(alloc, out, lines, rule, depth, tokens, here) {
-            Err(fault) => return Err(fault),
-            Ok(next) => here = next,
-        }
-    }
-    Ok(here)
-}
-
 /// The right side of the line.
 pub fn line_rule(lines: &[Rule], form: Form) -> &Rule
     requires { AreLines lines.now }
@@ -91,73 +67,263 @@ pub fn line_rule(lines: &[Rule], form: Form) -> &Rule
     &lines[form_number(form)]
 }
 
-/// Reads a text of the rule from the place on, with that many regions open, and adds its branches.
-#[cycle(reader)]
-#[tactic(auto, using(crate::proofs::Gives::gives_nothing, crate::proofs::Gives::gives_line, crate::proofs::Gives::gives_both, crate::proofs::Gives::gives_both_fails, crate::proofs::Gives::gives_left, crate::proofs::Gives::gives_right, crate::proofs::Gives::gives_no_brace, crate::proofs::Gives::gives_too_deep, crate::proofs::Gives::gives_region_ends, crate::proofs::Gives::gives_region_fails))]
-pub fn read(
+/// Reads a type, and adds its branch.
+fn read_type_name(
     alloc: Global,
     out: &mut Vec<Branch>,
-    lines: &[Rule],
-    rule: &Rule,
     depth: usize,
     tokens: &[Terminal],
     at: usize,
 ) -> Result<usize, Fault>
-    requires lines { AreLines lines.now }
-    requires small { weight (seen rule.now) < 1000 }
     requires within { at ≤ length tokens.now }
     requires few { length tokens.now < 2 ^ 32 }
+    ensures gives { Gives depth (line TypeName) tokens.now at result }
+    ensures grows { IfOk result (Grows tokens.now depth (line TypeName) at out.old.items out.new.items) }
+{
+    let mut parts = Vec::with_capacity(alloc, 1)?;
+    match read_one(alloc, &mut parts, Terminal::TypeWord, depth, tokens, at) {
+        Err(fault) => Err(fault),
+        Ok(next) => {
+            out.push(Branch::line(Form::TypeName, at as u32, parts))?;
+            Ok(next)
+        }
+    }
+}
+
+/// Reads the pick behind a value, if there is one, and adds its branch.
+#[tactic(auto, using(crate::proofs::Gives::gives_left, crate::proofs::Places::starts_one))]
+fn read_pick(
+    alloc: Global,
+    parts: &mut Vec<Branch>,
+    depth: usize,
+    tokens: &[Terminal],
+    at: usize,
+) -> Result<usize, Fault>
+    requires within { at ≤ length tokens.now }
+    requires few { length tokens.now < 2 ^ 32 }
+    ensures gives { Gives depth (maybe (one Pick)) tokens.now at result }
+    ensures grows { IfOk result (Grows tokens.now depth (maybe (one Pick)) at parts.old.items parts.new.items) }
+{
+    if next_is(Terminal::Pick, tokens, at) {
+        read_one(alloc, parts, Terminal::Pick, depth, tokens, at)
+    } else {
+        Ok(at)
+    }
+}
+
+/// Reads a value that is used, and adds its branch.
+fn read_use(
+    alloc: Global,
+    out: &mut Vec<Branch>,
+    depth: usize,
+    tokens: &[Terminal],
+    at: usize,
+) -> Result<usize, Fault>
+    requires within { at ≤ length tokens.now }
+    requires few { length tokens.now < 2 ^ 32 }
+    ensures gives { Gives depth (line Use) tokens.now at result }
+    ensures grows { IfOk result (Grows tokens.now depth (line Use) at out.old.items out.new.items) }
+{
+    let mut parts = Vec::with_capacity(alloc, 1)?;
+    match read_one(alloc, &mut parts, Terminal::Value, depth, tokens, at) {
+        Err(fault) => Err(fault),
+        Ok(mid) => match read_pick(alloc, &mut parts, depth, tokens, mid) {
+            Err(fault) => Err(fault),
+            Ok(next) => {
+                out.push(Branch::line(Form::Use, at as u32, parts))?;
+                Ok(next)
+            }
+        },
+    }
+}
+
+/// Reads a text of the line, and adds its branch. The two commonest lines go without their rules.
+#[cycle(reader)]
+fn read_line(
+    alloc: Global,
+    out: &mut Vec<Branch>,
+    source: &Source,
+    form: Form,
+    depth: usize,
+    at: usize,
+) -> Result<usize, Fault>
+    requires lines { AreLines source.now.lines.now }
+    requires within { at ≤ length source.now.tokens.now }
+    requires few { length source.now.tokens.now < 2 ^ 32 }
+    requires shallow { depth ≤ 12 }
+    ensures gives { Gives depth (line form) source.now.tokens.now at result }
+    ensures grows { IfOk result (Grows source.now.tokens.now depth (line form) at out.old.items out.new.items) }
+{
+    match form {
+        Form::TypeName => read_type_name(alloc, out, depth, source.tokens, at),
+        Form::Use => read_use(alloc, out, depth, source.tokens, at),
+        _ => read_by_rule(alloc, out, source, form, depth, at),
+    }
+}
+
+/// Reads a text of the line by its rule, and adds its branch.
+#[cycle(reader)]
+#[tactic(auto, using(crate::proofs::Gives::gives_line))]
+fn read_by_rule(
+    alloc: Global,
+    out: &mut Vec<Branch>,
+    source: &Source,
+    form: Form,
+    depth: usize,
+    at: usize,
+) -> Result<usize, Fault>
+    requires lines { AreLines source.now.lines.now }
+    requires within { at ≤ length source.now.tokens.now }
+    requires few { length source.now.tokens.now < 2 ^ 32 }
+    requires shallow { depth ≤ 12 }
+    ensures gives { Gives depth (line form) source.now.tokens.now at result }
+    ensures grows { IfOk result (Grows source.now.tokens.now depth (line form) at out.old.items out.new.items) }
+{
+    let before = out.len();
+    match read(alloc, out, source, line_rule(source.lines, form), depth, at) {
+        Err(fault) => Err(fault),
+        Ok(next) => {
+            let parts = out.split_off(before)?;
+            out.push(Branch::line(form, at as u32, parts))?;
+            Ok(next)
+        }
+    }
+}
+
+/// Reads a text of the one rule and a text of the other behind it.
+#[cycle(reader)]
+#[tactic(auto, using(crate::proofs::Gives::gives_both, crate::proofs::Gives::gives_both_fails))]
+fn read_both(
+    alloc: Global,
+    out: &mut Vec<Branch>,
+    source: &Source,
+    a: &Rule,
+    b: &Rule,
+    depth: usize,
+    at: usize,
+) -> Result<usize, Fault>
+    requires lines { AreLines source.now.lines.now }
+    requires small { weight (both (seen a.now) (seen b.now)) < 1000 }
+    requires within { at ≤ length source.now.tokens.now }
+    requires few { length source.now.tokens.now < 2 ^ 32 }
+    requires shallow { depth ≤ 12 }
+    requires first { IsMarked a.now }
+    requires second { IsMarked b.now }
+    ensures gives { Gives depth (both (seen a.now) (seen b.now)) source.now.tokens.now at result }
+    ensures grows { IfOk result (Grows source.now.tokens.now depth (both (seen a.now) (seen b.now)) at out.old.items out.new.items) }
+{
+    match read(alloc, out, source, a, depth, at) {
+        Err(fault) => Err(fault),
+        Ok(mid) => read(alloc, out, source, b, depth, mid),
+    }
+}
+
+/// Reads texts of the rule as long as one may begin, and adds their branches.
+#[cycle(reader)]
+#[tactic(auto, using(crate::proofs::Gives::gives_again, crate::proofs::Gives::gives_again_fails, crate::proofs::Gives::gives_enough, crate::proofs::Gives::goes_on))]
+fn read_many(
+    alloc: Global,
+    out: &mut Vec<Branch>,
+    source: &Source,
+    marks: &Vec<bool>,
+    rule: &Rule,
+    depth: usize,
+    at: usize,
+) -> Result<usize, Fault>
+    requires lines { AreLines source.now.lines.now }
+    requires small { weight (seen rule.now) < 1000 }
+    requires within { at ≤ length source.now.tokens.now }
+    requires few { length source.now.tokens.now < 2 ^ 32 }
     requires shallow { depth ≤ 12 }
     requires marked { IsMarked rule.now }
-    ensures gives { Gives depth (seen rule.now) tokens.now at result }
-    ensures grows { IfOk result (Grows tokens.now depth (seen rule.now) at out.old.items out.new.items) }
+    requires marks { Marks marks.now.items (seen rule.now) }
+    ensures gives { Gives depth (many (seen rule.now)) source.now.tokens.now at result }
+    ensures grows { IfOk result (Grows source.now.tokens.now depth (many (seen rule.now)) at out.old.items out.new.items) }
+{
+    let mut here = at;
+    'again: while may_begin(rule, marks, source.tokens, here) {
+        match read(alloc, out, source, rule, depth, here) {
+            Err(fault) => return Err(fault),
+            Ok(next) => here = next,
+        }
+    }
+    Ok(here)
+}
+
+/// Reads a region with a text of the rule in its braces, and adds the branches.
+#[cycle(reader)]
+#[tactic(auto, using(crate::proofs::Gives::gives_no_brace, crate::proofs::Gives::gives_too_deep, crate::proofs::Gives::gives_region_ends, crate::proofs::Gives::gives_region_fails))]
+fn read_region(
+    alloc: Global,
+    out: &mut Vec<Branch>,
+    source: &Source,
+    rule: &Rule,
+    depth: usize,
+    at: usize,
+) -> Result<usize, Fault>
+    requires lines { AreLines source.now.lines.now }
+    requires small { weight (region (seen rule.now)) < 1000 }
+    requires within { at ≤ length source.now.tokens.now }
+    requires few { length source.now.tokens.now < 2 ^ 32 }
+    requires shallow { depth ≤ 12 }
+    requires marked { IsMarked rule.now }
+    ensures gives { Gives depth (region (seen rule.now)) source.now.tokens.now at result }
+    ensures grows { IfOk result (Grows source.now.tokens.now depth (region (seen rule.now)) at out.old.items out.new.items) }
+{
+    if !next_is(Terminal::LeftBrace, source.tokens, at) {
+        return Err(Fault::Syntax(at));
+    }
+    if depth >= 12 {
+        return Err(Fault::TooDeep(at));
+    }
+    out.push(Branch::leaf(alloc, at as u32))?;
+    match read(alloc, out, source, rule, depth + 1, at + 1) {
+        Err(fault) => Err(fault),
+        Ok(end) => read_one(
+            alloc,
+            out,
+            Terminal::RightBrace,
+            depth + 1,
+            source.tokens,
+            end,
+        ),
+    }
+}
+
+/// Reads a text of the rule from the place on, with that many regions open, and adds its branches.
+/// Each kind of rule has a function of its own, so that a call holds little.
+#[cycle(reader)]
+#[tactic(auto, using(crate::proofs::Gives::gives_nothing, crate::proofs::Gives::gives_left, crate::proofs::Gives::gives_right))]
+pub fn read(
+    alloc: Global,
+    out: &mut Vec<Branch>,
+    source: &Source,
+    rule: &Rule,
+    depth: usize,
+    at: usize,
+) -> Result<usize, Fault>
+    requires lines { AreLines source.now.lines.now }
+    requires small { weight (seen rule.now) < 1000 }
+    requires within { at ≤ length source.now.tokens.now }
+    requires few { length source.now.tokens.now < 2 ^ 32 }
+    requires shallow { depth ≤ 12 }
+    requires marked { IsMarked rule.now }
+    ensures gives { Gives depth (seen rule.now) source.now.tokens.now at result }
+    ensures grows { IfOk result (Grows source.now.tokens.now depth (seen rule.now) at out.old.items out.new.items) }
 {
     match rule {
         Rule::Nothing => Ok(at),
-        Rule::One(terminal) => read_one(alloc, out, *terminal, depth, tokens, at),
-        Rule::Line(form) => {
-            let before = out.len();
-            match read(
-                alloc,
-                out,
-                lines,
-                line_rule(lines, *form),
-                depth,
-                tokens,
-                at,
-            ) {
-                Err(fault) => Err(fault),
-                Ok(next) => {
-                    let parts = out.split_off(before)?;
-                    out.push(Branch::line(*form, at as u32, parts))?;
-                    Ok(next)
-                }
-            }
-        }
-        Rule::Both(a, b) => match read(alloc, out, lines, a, depth, tokens, at) {
-            Err(fault) => Err(fault),
-            Ok(mid) => read(alloc, out, lines, b, depth, tokens, mid),
-        },
+        Rule::One(terminal) => read_one(alloc, out, *terminal, depth, source.tokens, at),
+        Rule::Line(form) => read_line(alloc, out, source, *form, depth, at),
+        Rule::Both(a, b) => read_both(alloc, out, source, a, b, depth, at),
         Rule::Either(marks, a, b) => {
-            if may_begin(a, marks, tokens, at) {
-                read(alloc, out, lines, a, depth, tokens, at)
+            if may_begin(a, marks, source.tokens, at) {
+                read(alloc, out, source, a, depth, at)
             } else {
-                read(alloc, out, lines, b, depth, tokens, at)
+                read(alloc, out, source, b, depth, at)
             }
         }
-        Rule::Many(marks, a) => read_many(alloc, out, lines, a, marks, depth, tokens, at),
-        Rule::Region(a) => {
-            if !next_is(Terminal::LeftBrace, tokens, at) {
-                return Err(Fault::Syntax(at));
-            }
-            if depth >= 12 {
-                return Err(Fault::TooDeep(at));
-            }
-            out.push(Branch::leaf(alloc, at as u32))?;
-            match read(alloc, out, lines, a, depth + 1, tokens, at + 1) {
-                Err(fault) => Err(fault),
-                Ok(end) => read_one(alloc, out, Terminal::RightBrace, depth + 1, tokens, end),
-            }
-        }
+        Rule::Many(marks, a) => read_many(alloc, out, source, marks, a, depth, at),
+        Rule::Region(a) => read_region(alloc, out, source, a, depth, at),
     }
 }

@@ -3,7 +3,7 @@ ghost use Rattle.mlir_ir.specs.Trees.{IsTreeOf, put, none};
 ghost use Rattle.mlir_parse.specs.Seen.{AreLines, IsFault};
 
 use crate::fault::Fault;
-use crate::read::{line_rule, read};
+use crate::read::{Source, line_rule, read};
 use crate::rule::Rule;
 use mlir_ir::{Branch, Form, Terminal};
 use std::alloc::Global;
@@ -17,7 +17,7 @@ pub fn tree_of(alloc: Global, lines: &[Rule], tokens: &[Terminal]) -> Result<Bra
 {
     let whole = line_rule(lines, Form::Whole);
     let mut parts = Vec::new(alloc);
-    match read(alloc, &mut parts, lines, whole, 0, tokens, 0) {
+    match read(alloc, &mut parts, &Source { lines, tokens }, whole, 0, 0) {
         Err(fault) => Err(fault),
         Ok(next) => {
             if next < tokens.len() {
