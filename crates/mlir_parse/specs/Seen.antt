@@ -1,5 +1,5 @@
 -- The grammar's right sides as the code has them.
-use Rattle.std.specs.Prelude.{ℕ, Bool, map, ◌≡◌, ◌<◌, ◌≤◌, ◌++◌, List, length, drop, slice_index_or, Result, Ok, Err}
+use Rattle.std.specs.Prelude.{ℕ, ◌≡◌, ◌<◌, ◌≤◌, ◌++◌, List, length, drop, slice_index_or, Result, Ok, Err}
 use Rattle.mlir_ir.specs.Grammar.{Pattern, nothing, one, line, both, either, many, region, body}
 use Rattle.mlir_parse.specs.Tables.{form_at, first_set}
 use Rattle.mlir_parse.specs.Runs.{Runs, Done, Stop, Deep}
