@@ -4,6 +4,7 @@ pub mod Fits
 pub mod Back
 pub mod Only
 pub mod Viable
+pub mod Sets
 pub mod Places
 pub mod Gives
 pub mod Ranks
@@ -13,7 +14,6 @@ pub mod Wholes
 pub mod Grows
 pub mod Unique
 pub mod Table
-pub mod Marks
 pub mod Roots
 pub mod Hopes
 pub mod Parsed

@@ -1,7 +1,7 @@
 -- The grammar's right sides as the code has them.
-use Rattle.std.specs.Prelude.{ℕ, Bool, map, ◌≡◌, ◌<◌, ◌≤◌, ◌++◌, List, length, drop, slice_index_or, Result, Ok, Err}
+use Rattle.std.specs.Prelude.{ℕ, ◌≡◌, ◌<◌, ◌≤◌, ◌++◌, List, length, drop, slice_index_or, Result, Ok, Err}
 use Rattle.mlir_ir.specs.Grammar.{Pattern, nothing, one, line, both, either, many, region, body}
-use Rattle.mlir_parse.specs.Tables.{form_at, first, terminals}
+use Rattle.mlir_parse.specs.Tables.{form_at, first_set}
 use Rattle.mlir_parse.specs.Runs.{Runs, Done, Stop, Deep}
 use Rattle.mlir_ir.specs.Texts.{IsSyntaxFault, IsTooDeep}
 use Rattle.mlir_ir.specs.Trees.{forest, Derives}
@@ -22,21 +22,17 @@ seen (Either' m p a q b) = either (seen a) (seen b)
 seen (Many' m p a) = many (seen a)
 seen (Region' p a) = region (seen a)
 
--- for each terminal, by its number, whether a text of the pattern may begin with it
-abbrev pub Marks : List Bool → Pattern → Type 0
-Marks marks r = marks ≡ map (first r) terminals
-
--- the marks at each choice are those of what it chooses
+-- the set at each choice is that of what it chooses
 abbrev pub IsMarked : Rule → Type 0
 IsMarked Nothing = Unit {0}
 IsMarked (One c) = Unit {0}
 IsMarked (Line f) = Unit {0}
 IsMarked (Both' p a q b) = IsMarked a × IsMarked b
-IsMarked (Either' m p a q b) = Marks m.items (seen a) × IsMarked a × IsMarked b
-IsMarked (Many' m p a) = Marks m.items (seen a) × IsMarked a
+IsMarked (Either' m p a q b) = (m ≡ first_set (seen a)) × IsMarked a × IsMarked b
+IsMarked (Many' m p a) = (m ≡ first_set (seen a)) × IsMarked a
 IsMarked (Region' p a) = IsMarked a
 
--- the rule is that of the pattern, with its marks
+-- the rule is that of the pattern, with its sets
 abbrev pub Stands : Rule → Pattern → Type 0
 Stands rule r = (seen rule ≡ r) × IsMarked rule
 

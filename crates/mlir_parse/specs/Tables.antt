@@ -1,5 +1,7 @@
 -- What may begin and follow the lines of the grammar, as tables, with the test that one token decides at each place.
-use Rattle.std.specs.Prelude.{ℕ, ◌+◌, ◌==◌, max, Bool, true, false, ◌||◌, ◌&&◌, not, List, [], ◌∷◌}
+use Rattle.std.specs.Prelude.{ℕ, ◌+◌, ◌^◌, ◌==◌, max, Bool, true, false, ◌||◌, ◌&&◌, not, if◌then◌else◌, List, [], ◌∷◌}
+use Rattle.std.specs.Int.{bit_at}
+use Rattle.std.specs.Int.Bits.{bit_or}
 use Rattle.std.specs.List.{list_all}
 use Rattle.mlir_ir.specs.Grammar.{Pattern, nothing, one, line, both, either, many, region}
 use Rattle.mlir_ir.specs.declared.terminal.Terminal.{Terminal}
@@ -100,25 +102,29 @@ among [] c = false
 among (d ∷ []) c = same d c
 among (d ∷ e ∷ ds) c = same d c || among (e ∷ ds) c
 
--- what a line may begin with
+-- the terminals that a line may begin with
+abbrev pub line_firsts : Form → List Terminal
+line_firsts Leaf = []
+line_firsts Whole = Module ∷ Function ∷ []
+line_firsts Func = Function ∷ []
+line_firsts Params = Value ∷ []
+line_firsts Types = TypeWord ∷ []
+line_firsts Results = TypeWord ∷ LeftParen ∷ []
+line_firsts TypeName = TypeWord ∷ []
+line_firsts Body = LeftBrace ∷ []
+line_firsts Ends = Value ∷ []
+line_firsts Uses = Value ∷ []
+line_firsts Use = Value ∷ []
+line_firsts Op = Constant ∷ Binary ∷ FlaggedBinary ∷ Cast ∷ FlaggedCast ∷ Compare ∷ Select ∷ Call ∷ If ∷ For ∷ While ∷ Value ∷ []
+line_firsts Pack = Value ∷ []
+line_firsts Kind = Constant ∷ Binary ∷ FlaggedBinary ∷ Cast ∷ FlaggedCast ∷ Compare ∷ Select ∷ Call ∷ If ∷ For ∷ While ∷ []
+line_firsts Inits = Value ∷ []
+line_firsts Region = LeftBrace ∷ []
+line_firsts Flags = Overflow ∷ []
+
+-- whether a line may begin with the terminal
 abbrev pub first_line : Form → Terminal → Bool
-first_line Leaf c = false
-first_line Whole c = among (Module ∷ Function ∷ []) c
-first_line Func c = among (Function ∷ []) c
-first_line Params c = among (Value ∷ []) c
-first_line Types c = among (TypeWord ∷ []) c
-first_line Results c = among (TypeWord ∷ LeftParen ∷ []) c
-first_line TypeName c = among (TypeWord ∷ []) c
-first_line Body c = among (LeftBrace ∷ []) c
-first_line Ends c = among (Value ∷ []) c
-first_line Uses c = among (Value ∷ []) c
-first_line Use c = among (Value ∷ []) c
-first_line Op c = among (Constant ∷ Binary ∷ FlaggedBinary ∷ Cast ∷ FlaggedCast ∷ Compare ∷ Select ∷ Call ∷ If ∷ For ∷ While ∷ Value ∷ []) c
-first_line Pack c = among (Value ∷ []) c
-first_line Kind c = among (Constant ∷ Binary ∷ FlaggedBinary ∷ Cast ∷ FlaggedCast ∷ Compare ∷ Select ∷ Call ∷ If ∷ For ∷ While ∷ []) c
-first_line Inits c = among (Value ∷ []) c
-first_line Region c = among (LeftBrace ∷ []) c
-first_line Flags c = among (Overflow ∷ []) c
+first_line f c = among (line_firsts f) c
 
 -- whether a text of it may be nothing
 abbrev pub empty : Pattern → Bool
@@ -139,6 +145,28 @@ first (both a b) c = first a c || (empty a && first b c)
 first (either a b) c = first a c || first b c
 first (many a) c = first a c
 first (region a) c = same LeftBrace c
+
+-- a set of terminals as a number: that of a terminal, and that of some
+abbrev pub mark : Terminal → ℕ
+mark c = 2 ^ number c
+
+abbrev pub marks : List Terminal → ℕ
+marks [] = 0
+marks (c ∷ cs) = bit_or (mark c) (marks cs)
+
+-- whether the set has the terminal
+abbrev pub has : ℕ → Terminal → Bool
+has set c = bit_at set (number c) == 1
+
+-- the set of what a text of it may begin with
+abbrev pub first_set : Pattern → ℕ
+first_set nothing = 0
+first_set (one d) = mark d
+first_set (line f) = marks (line_firsts f)
+first_set (both a b) = if empty a then bit_or (first_set a) (first_set b) else first_set a
+first_set (either a b) = bit_or (first_set a) (first_set b)
+first_set (many a) = first_set a
+first_set (region a) = mark LeftBrace
 
 -- what may follow a line
 abbrev pub follow : Form → Terminal → Bool

@@ -4,7 +4,7 @@ ghost use Rattle.mlir_ir.specs.declared.syntax.Form.{Form};
 ghost use Rattle.mlir_parse.specs.Seen.{seen, AreLines};
 
 use crate::rule::Rule::{Line, Nothing, One};
-use crate::rule::{Rule, with_marks};
+use crate::rule::{Rule, with_sets};
 use mlir_ir::{Form, Terminal};
 use std::alloc::{AllocError, Global};
 
@@ -12,11 +12,7 @@ use std::alloc::{AllocError, Global};
 fn either(alloc: Global, first: Rule, second: Rule) -> Result<Rule, AllocError>
     ensures { IfOk result (λ rule. seen rule ≡ grammar.either (seen first) (seen second)) }
 {
-    Ok(Rule::Either(
-        Vec::new(alloc),
-        Box::new(alloc, first)?,
-        Box::new(alloc, second)?,
-    ))
+    Ok(Rule::Either(0, Box::new(alloc, first)?, Box::new(alloc, second)?))
 }
 
 /// Once or not at all.
@@ -30,7 +26,7 @@ fn maybe(alloc: Global, rule: Rule) -> Result<Rule, AllocError>
 fn many(alloc: Global, rule: Rule) -> Result<Rule, AllocError>
     ensures { IfOk result (λ made. seen made ≡ grammar.many (seen rule)) }
 {
-    Ok(Rule::Many(Vec::new(alloc), Box::new(alloc, rule)?))
+    Ok(Rule::Many(0, Box::new(alloc, rule)?))
 }
 
 /// A region: what stands inside its braces.
@@ -553,22 +549,22 @@ fn flags_line(alloc: Global) -> Result<Rule, AllocError>
 pub fn lines(alloc: Global) -> Result<Vec<Rule>, AllocError>
     ensures { IfOk result (λ rules. AreLines rules.items) }
 {
-    let whole_rule = with_marks(alloc, &whole_line(alloc)?)?;
-    let func_rule = with_marks(alloc, &func_line(alloc)?)?;
-    let params_rule = with_marks(alloc, &params_line(alloc)?)?;
-    let types_rule = with_marks(alloc, &types_line(alloc)?)?;
-    let results_rule = with_marks(alloc, &results_line(alloc)?)?;
-    let type_name_rule = with_marks(alloc, &type_name_line(alloc)?)?;
-    let body_rule = with_marks(alloc, &body_line(alloc)?)?;
-    let ends_rule = with_marks(alloc, &ends_line(alloc)?)?;
-    let uses_rule = with_marks(alloc, &uses_line(alloc)?)?;
-    let use_rule = with_marks(alloc, &use_line(alloc)?)?;
-    let op_rule = with_marks(alloc, &op_line(alloc)?)?;
-    let pack_rule = with_marks(alloc, &pack_line(alloc)?)?;
-    let kind_rule = with_marks(alloc, &kind_line(alloc)?)?;
-    let inits_rule = with_marks(alloc, &inits_line(alloc)?)?;
-    let region_rule = with_marks(alloc, &region_line(alloc)?)?;
-    let flags_rule = with_marks(alloc, &flags_line(alloc)?)?;
+    let whole_rule = with_sets(alloc, &whole_line(alloc)?)?;
+    let func_rule = with_sets(alloc, &func_line(alloc)?)?;
+    let params_rule = with_sets(alloc, &params_line(alloc)?)?;
+    let types_rule = with_sets(alloc, &types_line(alloc)?)?;
+    let results_rule = with_sets(alloc, &results_line(alloc)?)?;
+    let type_name_rule = with_sets(alloc, &type_name_line(alloc)?)?;
+    let body_rule = with_sets(alloc, &body_line(alloc)?)?;
+    let ends_rule = with_sets(alloc, &ends_line(alloc)?)?;
+    let uses_rule = with_sets(alloc, &uses_line(alloc)?)?;
+    let use_rule = with_sets(alloc, &use_line(alloc)?)?;
+    let op_rule = with_sets(alloc, &op_line(alloc)?)?;
+    let pack_rule = with_sets(alloc, &pack_line(alloc)?)?;
+    let kind_rule = with_sets(alloc, &kind_line(alloc)?)?;
+    let inits_rule = with_sets(alloc, &inits_line(alloc)?)?;
+    let region_rule = with_sets(alloc, &region_line(alloc)?)?;
+    let flags_rule = with_sets(alloc, &flags_line(alloc)?)?;
     let mut rules = Vec::new(alloc);
     rules.push(Nothing)?;
     rules.push(whole_rule)?;

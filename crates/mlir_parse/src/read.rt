@@ -1,13 +1,13 @@
 ghost use Rattle.std.specs.Prelude.{◌≡◌, ◌≤◌, ◌<◌, ◌^◌, true, length, drop, IfOk};
 ghost use Rattle.mlir_ir.specs.Grammar.{one, line, both, maybe, many, region, body};
-ghost use Rattle.mlir_parse.specs.Seen.{seen, AreLines, Gives, Grows, Marks, IsMarked};
+ghost use Rattle.mlir_parse.specs.Seen.{seen, AreLines, Gives, Grows, IsMarked};
 ghost use Rattle.mlir_parse.specs.Runs.{starts, is_next};
-ghost use Rattle.mlir_parse.specs.Tables.{weight, rank_line};
+ghost use Rattle.mlir_parse.specs.Tables.{weight, first_set};
 ghost use Rattle.mlir_ir.specs.declared.terminal.Terminal.TheVariants.{Pick};
 ghost use Rattle.mlir_ir.specs.declared.syntax.Form.TheVariants.{TypeName, Use};
 
 use crate::fault::Fault;
-use crate::rule::{Rule, form_number, is_marked, is_same};
+use crate::rule::{Rule, form_number, has, is_same};
 use mlir_ir::{Branch, Form, Terminal};
 use std::alloc::Global;
 
@@ -18,13 +18,13 @@ pub struct Source<'a> {
     pub tokens: &'a [Terminal],
 }
 
-/// Whether a text of the rule, which has these marks, may begin at the place.
-#[tactic(auto, using(crate::proofs::Places::starts_here, crate::proofs::Places::starts_none))]
-fn may_begin(rule: &Rule, marks: &Vec<bool>, tokens: &[Terminal], at: usize) -> bool
-    requires { Marks marks.now.items (seen rule.now) }
+/// Whether a text of the rule, which begins with one of the set, may begin at the place.
+#[tactic(auto, using(crate::proofs::Places::starts_none))]
+fn may_begin(rule: &Rule, set: u64, tokens: &[Terminal], at: usize) -> bool
+    requires { set ≡ first_set (seen rule.now) }
     ensures { result ≡ starts (seen rule.now) (drop at tokens.now) }
 {
-    at < tokens.len() && is_marked(marks.as_slice(), tokens[at])
+    at < tokens.len() && has(set, tokens[at])
 }
 
 /// Whether the terminal stands at the place.
@@ -225,7 +225,7 @@ fn read_many(
     alloc: Global,
     out: &mut Vec<Branch>,
     source: &Source,
-    marks: &Vec<bool>,
+    set: u64,
     rule: &Rule,
     depth: usize,
     at: usize,
@@ -236,12 +236,12 @@ fn read_many(
     requires few { length source.now.tokens.now < 2 ^ 32 }
     requires shallow { depth ≤ 12 }
     requires marked { IsMarked rule.now }
-    requires marks { Marks marks.now.items (seen rule.now) }
+    requires set { set ≡ first_set (seen rule.now) }
     ensures gives { Gives depth (many (seen rule.now)) source.now.tokens.now at result }
     ensures grows { IfOk result (Grows source.now.tokens.now depth (many (seen rule.now)) at out.old.items out.new.items) }
 {
     let mut here = at;
-    'again: while may_begin(rule, marks, source.tokens, here) {
+    'again: while may_begin(rule, set, source.tokens, here) {
         match read(alloc, out, source, rule, depth, here) {
             Err(fault) => return Err(fault),
             Ok(next) => here = next,
@@ -316,14 +316,14 @@ pub fn read(
         Rule::One(terminal) => read_one(alloc, out, *terminal, depth, source.tokens, at),
         Rule::Line(form) => read_line(alloc, out, source, *form, depth, at),
         Rule::Both(a, b) => read_both(alloc, out, source, a, b, depth, at),
-        Rule::Either(marks, a, b) => {
-            if may_begin(a, marks, source.tokens, at) {
+        Rule::Either(set, a, b) => {
+            if may_begin(a, *set, source.tokens, at) {
                 read(alloc, out, source, a, depth, at)
             } else {
                 read(alloc, out, source, b, depth, at)
             }
         }
-        Rule::Many(marks, a) => read_many(alloc, out, source, marks, a, depth, at),
+        Rule::Many(set, a) => read_many(alloc, out, source, *set, a, depth, at),
         Rule::Region(a) => read_region(alloc, out, source, a, depth, at),
     }
 }

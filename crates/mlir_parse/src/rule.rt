@@ -1,7 +1,6 @@
-ghost use Rattle.std.specs.Prelude.{◌≡◌, ◌==◌, map, IfOk};
-ghost use Rattle.mlir_ir.specs.Grammar.{Pattern};
+ghost use Rattle.std.specs.Prelude.{◌≡◌, ◌<◌, IfOk};
 ghost use Rattle.mlir_parse.specs.Tables as tables;
-ghost use Rattle.mlir_parse.specs.Seen.{seen, Marks, Stands};
+ghost use Rattle.mlir_parse.specs.Seen.{seen, Stands};
 
 use mlir_ir::{Form, Terminal};
 use std::alloc::{AllocError, Global};
@@ -17,10 +16,10 @@ pub enum Rule {
     Line(Form),
     /// One behind the other.
     Both(Box<Rule>, Box<Rule>),
-    /// One of the two, with the marks of the first.
-    Either(Vec<bool>, Box<Rule>, Box<Rule>),
-    /// Any number of times, with the marks of once.
-    Many(Vec<bool>, Box<Rule>),
+    /// One of the two, with the set of terminals that the first may begin with.
+    Either(u64, Box<Rule>, Box<Rule>),
+    /// Any number of times, with the set of terminals that once may begin with.
+    Many(u64, Box<Rule>),
     /// A region: what stands inside its braces.
     Region(Box<Rule>),
 }
@@ -36,59 +35,10 @@ impl Rule {
     }
 }
 
-/// All terminals, by their numbers.
-const TERMINALS: [Terminal; 46] = [
-    Terminal::Module,
-    Terminal::Function,
-    Terminal::Private,
-    Terminal::TypeWord,
-    Terminal::Return,
-    Terminal::Constant,
-    Terminal::Truth,
-    Terminal::Binary,
-    Terminal::FlaggedBinary,
-    Terminal::Cast,
-    Terminal::FlaggedCast,
-    Terminal::Compare,
-    Terminal::Predicate,
-    Terminal::Select,
-    Terminal::Call,
-    Terminal::If,
-    Terminal::Else,
-    Terminal::For,
-    Terminal::To,
-    Terminal::Step,
-    Terminal::IterArgs,
-    Terminal::While,
-    Terminal::Condition,
-    Terminal::Do,
-    Terminal::Yield,
-    Terminal::Overflow,
-    Terminal::Nsw,
-    Terminal::Nuw,
-    Terminal::OtherWord,
-    Terminal::Value,
-    Terminal::Symbol,
-    Terminal::Caret,
-    Terminal::Pick,
-    Terminal::Decimal,
-    Terminal::Hexadecimal,
-    Terminal::LeftParen,
-    Terminal::RightParen,
-    Terminal::LeftBrace,
-    Terminal::RightBrace,
-    Terminal::Less,
-    Terminal::Greater,
-    Terminal::Comma,
-    Terminal::Colon,
-    Terminal::Equals,
-    Terminal::Arrow,
-    Terminal::Minus,
-];
-
 /// The number of the terminal.
 fn number_of(terminal: Terminal) -> u8
-    ensures { result ≡ tables.number terminal }
+    ensures number { result ≡ tables.number terminal }
+    ensures small { result < 64 }
 {
     match terminal {
         Terminal::Module => 0,
@@ -172,50 +122,78 @@ pub fn form_number(form: Form) -> usize
     }
 }
 
-/// Whether the line may begin with the terminal.
-fn line_begins(form: Form, terminal: Terminal) -> bool
-    ensures { result ≡ tables.first_line form terminal }
+/// The set of the one terminal: a set has a bit for each terminal, at its number.
+fn mark(terminal: Terminal) -> u64
+    ensures { result ≡ tables.mark terminal }
+{
+    1 << u32::from(number_of(terminal))
+}
+
+/// The set of the terminals.
+fn marks(terminals: &[Terminal]) -> u64
+    ensures { result ≡ tables.marks terminals.now }
+{
+    match terminals {
+        [] => 0,
+        [first, rest @ ..] => mark(*first) | marks(rest),
+    }
+}
+
+/// Whether the set has the terminal.
+pub fn has(set: u64, terminal: Terminal) -> bool
+    ensures { result ≡ tables.has set terminal }
+{
+    (set >> u32::from(number_of(terminal))) % 2 == 1
+}
+
+/// The terminals that an operation may begin with: what its kind begins with, or the name of a result.
+const OPERATIONS: [Terminal; 12] = [
+    Terminal::Constant,
+    Terminal::Binary,
+    Terminal::FlaggedBinary,
+    Terminal::Cast,
+    Terminal::FlaggedCast,
+    Terminal::Compare,
+    Terminal::Select,
+    Terminal::Call,
+    Terminal::If,
+    Terminal::For,
+    Terminal::While,
+    Terminal::Value,
+];
+
+/// The terminals that an operation without its results may begin with.
+const KINDS: [Terminal; 11] = [
+    Terminal::Constant,
+    Terminal::Binary,
+    Terminal::FlaggedBinary,
+    Terminal::Cast,
+    Terminal::FlaggedCast,
+    Terminal::Compare,
+    Terminal::Select,
+    Terminal::Call,
+    Terminal::If,
+    Terminal::For,
+    Terminal::While,
+];
+
+/// The set of the terminals that a line may begin with.
+fn line_set(form: Form) -> u64
+    ensures { result ≡ tables.marks (tables.line_firsts form) }
 {
     match form {
-        Form::Leaf => false,
-        Form::Whole => is_same(Terminal::Module, terminal) || is_same(Terminal::Function, terminal),
-        Form::Func => is_same(Terminal::Function, terminal),
-        Form::Params => is_same(Terminal::Value, terminal),
-        Form::Types => is_same(Terminal::TypeWord, terminal),
-        Form::Results => is_same(Terminal::TypeWord, terminal)
-            || is_same(Terminal::LeftParen, terminal),
-        Form::TypeName => is_same(Terminal::TypeWord, terminal),
-        Form::Body => is_same(Terminal::LeftBrace, terminal),
-        Form::Ends => is_same(Terminal::Value, terminal),
-        Form::Uses => is_same(Terminal::Value, terminal),
-        Form::Use => is_same(Terminal::Value, terminal),
-        Form::Op => is_same(Terminal::Constant, terminal)
-            || is_same(Terminal::Binary, terminal)
-            || is_same(Terminal::FlaggedBinary, terminal)
-            || is_same(Terminal::Cast, terminal)
-            || is_same(Terminal::FlaggedCast, terminal)
-            || is_same(Terminal::Compare, terminal)
-            || is_same(Terminal::Select, terminal)
-            || is_same(Terminal::Call, terminal)
-            || is_same(Terminal::If, terminal)
-            || is_same(Terminal::For, terminal)
-            || is_same(Terminal::While, terminal)
-            || is_same(Terminal::Value, terminal),
-        Form::Pack => is_same(Terminal::Value, terminal),
-        Form::Kind => is_same(Terminal::Constant, terminal)
-            || is_same(Terminal::Binary, terminal)
-            || is_same(Terminal::FlaggedBinary, terminal)
-            || is_same(Terminal::Cast, terminal)
-            || is_same(Terminal::FlaggedCast, terminal)
-            || is_same(Terminal::Compare, terminal)
-            || is_same(Terminal::Select, terminal)
-            || is_same(Terminal::Call, terminal)
-            || is_same(Terminal::If, terminal)
-            || is_same(Terminal::For, terminal)
-            || is_same(Terminal::While, terminal),
-        Form::Inits => is_same(Terminal::Value, terminal),
-        Form::Region => is_same(Terminal::LeftBrace, terminal),
-        Form::Flags => is_same(Terminal::Overflow, terminal),
+        Form::Leaf => 0,
+        Form::Whole => marks(&[Terminal::Module, Terminal::Function]),
+        Form::Func => marks(&[Terminal::Function]),
+        Form::Types | Form::TypeName => marks(&[Terminal::TypeWord]),
+        Form::Results => marks(&[Terminal::TypeWord, Terminal::LeftParen]),
+        Form::Body | Form::Region => marks(&[Terminal::LeftBrace]),
+        Form::Params | Form::Ends | Form::Uses | Form::Use | Form::Pack | Form::Inits => {
+            marks(&[Terminal::Value])
+        }
+        Form::Op => marks(&OPERATIONS),
+        Form::Kind => marks(&KINDS),
+        Form::Flags => marks(&[Terminal::Overflow]),
     }
 }
 
@@ -245,52 +223,29 @@ fn can_be_empty(rule: &Rule) -> bool
     }
 }
 
-/// Whether a text of the rule may begin with the terminal.
-pub fn begins(rule: &Rule, terminal: Terminal) -> bool
-    ensures { result ≡ tables.first (seen rule.now) terminal }
+/// The set of the terminals that a text of the rule may begin with.
+fn first_set(rule: &Rule) -> u64
+    ensures { result ≡ tables.first_set (seen rule.now) }
 {
     match rule {
-        Rule::Nothing => false,
-        Rule::One(wanted) => is_same(*wanted, terminal),
-        Rule::Line(form) => line_begins(*form, terminal),
-        Rule::Both(a, b) => begins(a, terminal) || (can_be_empty(a) && begins(b, terminal)),
-        Rule::Either(_, a, b) => begins(a, terminal) || begins(b, terminal),
-        Rule::Many(_, a) => begins(a, terminal),
-        Rule::Region(_) => is_same(Terminal::LeftBrace, terminal),
+        Rule::Nothing => 0,
+        Rule::One(terminal) => mark(*terminal),
+        Rule::Line(form) => line_set(*form),
+        Rule::Both(a, b) => {
+            if can_be_empty(a) {
+                first_set(a) | first_set(b)
+            } else {
+                first_set(a)
+            }
+        }
+        Rule::Either(_, a, b) => first_set(a) | first_set(b),
+        Rule::Many(_, a) => first_set(a),
+        Rule::Region(_) => mark(Terminal::LeftBrace),
     }
 }
 
-/// For each of the terminals, whether a text of the rule may begin with it.
-fn marks_among(alloc: Global, rule: &Rule, terminals: &[Terminal]) -> Result<Vec<bool>, AllocError>
-    ensures { IfOk result (λ marks. marks.items ≡ map (tables.first (seen rule.now)) terminals.now) }
-{
-    let mut marks = Vec::with_capacity(alloc, terminals.len())?;
-    for terminal in terminals {
-        marks.push(begins(rule, *terminal))?;
-    }
-    Ok(marks)
-}
-
-/// For each terminal, by its number, whether a text of the rule may begin with it.
-fn marks_of(alloc: Global, rule: &Rule) -> Result<Vec<bool>, AllocError>
-    ensures { IfOk result (λ marks. Marks marks.items (seen rule.now)) }
-{
-    marks_among(alloc, rule, &TERMINALS)
-}
-
-/// Whether a text of the rule with these marks may begin with the terminal.
-#[tactic(auto, using(crate::proofs::Marks::marked_at))]
-pub fn is_marked(marks: &[bool], terminal: Terminal) -> bool
-    ensures { (r : Pattern) → Marks marks.now r → result ≡ tables.first r terminal }
-{
-    match marks.get(number_of(terminal) as usize) {
-        Some(mark) => *mark,
-        None => false,
-    }
-}
-
-/// The same rule, with its marks.
-pub fn with_marks(alloc: Global, rule: &Rule) -> Result<Rule, AllocError>
+/// The same rule, with its sets.
+pub fn with_sets(alloc: Global, rule: &Rule) -> Result<Rule, AllocError>
     ensures { IfOk result (λ made. Stands made (seen rule.now)) }
 {
     match rule {
@@ -298,23 +253,23 @@ pub fn with_marks(alloc: Global, rule: &Rule) -> Result<Rule, AllocError>
         Rule::One(terminal) => Ok(Rule::One(*terminal)),
         Rule::Line(form) => Ok(Rule::Line(*form)),
         Rule::Both(a, b) => {
-            let first = with_marks(alloc, a)?;
-            let second = with_marks(alloc, b)?;
+            let first = with_sets(alloc, a)?;
+            let second = with_sets(alloc, b)?;
             Ok(Rule::Both(Box::new(alloc, first)?, Box::new(alloc, second)?))
         }
         Rule::Either(_, a, b) => {
-            let marks = marks_of(alloc, a)?;
-            let first = with_marks(alloc, a)?;
-            let second = with_marks(alloc, b)?;
-            Ok(Rule::Either(marks, Box::new(alloc, first)?, Box::new(alloc, second)?))
+            let set = first_set(a);
+            let first = with_sets(alloc, a)?;
+            let second = with_sets(alloc, b)?;
+            Ok(Rule::Either(set, Box::new(alloc, first)?, Box::new(alloc, second)?))
         }
         Rule::Many(_, a) => {
-            let marks = marks_of(alloc, a)?;
-            let once = with_marks(alloc, a)?;
-            Ok(Rule::Many(marks, Box::new(alloc, once)?))
+            let set = first_set(a);
+            let once = with_sets(alloc, a)?;
+            Ok(Rule::Many(set, Box::new(alloc, once)?))
         }
         Rule::Region(a) => {
-            let inside = with_marks(alloc, a)?;
+            let inside = with_sets(alloc, a)?;
             Ok(Rule::Region(Box::new(alloc, inside)?))
         }
     }
