@@ -16,7 +16,7 @@ use Rattle.chrec_algebra.proofs.Parts.{put_is}
 
 -- ---- the tree of the places
 
-place_coeff : (x : ℕ) (ps qs : Polynomials) → ((j : ℕ) (m : List Power) → place ps j m ≡ place qs j m) → (m : List Power) → coefficient (ext x ps) m ≡ coefficient (ext x qs) m
+pub place_coeff : (x : ℕ) (ps qs : Polynomials) → ((j : ℕ) (m : List Power) → place ps j m ≡ place qs j m) → (m : List Power) → coefficient (ext x ps) m ≡ coefficient (ext x qs) m
 place_coeff x ps qs h [] = h 0 []
 place_coeff x ps qs h (q ∷ m) = elim (cases_order q.var x) [ inl e ↦ rw (eq-eqb q.var x e) (h q.exp m) | inr ne ↦ rw (ne_eqb q.var x (λ e. elim ne [ inl l ↦ omega arith | inr g ↦ omega arith ])) (h 0 (q ∷ m)) ]
 
@@ -75,7 +75,7 @@ canon_there M x ts vs k o e eo c lt = canon_of M x ts k o (eo ∙ ap (λ (us : L
 pub put_at : (M k c : ℕ) (ts vs us : List Tree) (o r : Tree) (t : Polynomial) → k < length ts → vs ≡ ts → o ≡ get_or vs k o → us ≡ set ts k r → IsAdded M c (polynomial_of r) (polynomial_of o) t → IsPut M k c t (polynomials ts) (polynomials us)
 put_at M k c ts vs us o r t lt e eo es a = put_is M k c ts us o r t lt (eo ∙ ap (λ (ws : List Tree). get_or ws k o) e) es a
 
-set_twice : (ts : List Tree) (k : ℕ) (a b : Tree) → set (set ts k a) k b ≡ set ts k b
+pub set_twice : (ts : List Tree) (k : ℕ) (a b : Tree) → set (set ts k a) k b ≡ set ts k b
 set_twice [] k a b = refl
 set_twice (t ∷ ts) zero a b = refl
 set_twice (t ∷ ts) (suc k) a b = ap (λ (us : List Tree). t ∷ us) (set_twice ts k a b)

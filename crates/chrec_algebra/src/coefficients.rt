@@ -12,7 +12,8 @@ const BINOMIALS: [u64; 153] = [
     1820, 4368, 8008, 11440, 12870,
 ];
 
-fn binomial(n: usize, k: usize) -> u64
+/// C(n,k) from the table.
+pub fn binomial(n: usize, k: usize) -> u64
     requires row { n ≤ 16 }
     requires place { k ≤ 8 }
     ensures { result ≡ binomial_of n k }

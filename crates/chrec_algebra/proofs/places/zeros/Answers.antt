@@ -1,6 +1,6 @@
 use Rattle.std.proofs.Common.{arith}
 use Rattle.chrec_algebra.proofs.Parts.{zeros_empty, zeros_push}
-use Rattle.chrec_algebra.proofs.product.zeros.Goals as goal
+use Rattle.chrec_algebra.proofs.places.zeros.Goals as goal
 
 pub loop-k-init : goal.loop-k-init
 loop-k-init c = (c.in_ok-out.ensures.len, zeros_empty c.in_ok-out.out.items c.in_ok-out.ensures.items)
