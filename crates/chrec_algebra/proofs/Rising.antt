@@ -1,14 +1,14 @@
 -- rows of sums by Pascal's rule
-use Rattle.std.proofs.Common.{◌≡◌, ℕ, zero, suc, ◌+◌, ◌-◌, ◌*◌, ◌%◌, ◌<◌, ◌≤◌, inl, inr, List, [], ◌∷◌, refl, ap, ◌∙◌, sym, subst, arith, length, get_or, Bool, true}
+use Rattle.std.proofs.Common.{◌≡◌, ℕ, zero, suc, ◌+◌, ◌-◌, ◌*◌, ◌%◌, ◌<◌, ◌≤◌, inl, inr, List, [], ◌∷◌, refl, ap, ◌∙◌, sym, subst, arith, get_or, Bool, true}
 use Rattle.std.specs.Prelude.{◌==◌, if◌then◌else◌}
 use Rattle.std.proofs.lemmas.Bool.{agree_below, agree_below_at, eqb-true, eq-eqb, ne_eqb, cases_lt, cases_eq}
 use Rattle.std.proofs.Math.Nat.{mod-eq_of_lt, mod-mod, add-mod}
 use Rattle.std.proofs.Math.ListN.{set}
 use Rattle.scev_binom.specs.Binomial.{binomial, product_coefficient}
 use Rattle.scev_tree.specs.declared.tree.Tree.{Tree}
-use Rattle.scev_tree.specs.Polynomial.{Polynomial, Polynomials, Power, with_power, coefficient, place, IsMonomial, AreCanonical}
-use Rattle.scev_tree.specs.Tree.{polynomials, polynomial_of, len}
-use Rattle.scev_tree.proofs.Places.{fits_place, place_of, canon_of, under_of, past_end}
+use Rattle.scev_tree.specs.Polynomial.{Polynomial, Polynomials, Power, with_power, coefficient, place, IsMonomial, Under, IsCanonical, AreCanonical}
+use Rattle.scev_tree.specs.Tree.{len}
+use Rattle.scev_tree.proofs.Places.{fits_place, past_end}
 use Rattle.chrec_algebra.specs.Product.{times, sum_to, product_at, IsPut}
 use Rattle.chrec_algebra.specs.Places.{row_of_sums, AreRisen, IsRaised}
 use Rattle.chrec_algebra.proofs.Products.{sum_same, sum_zero, mul_same, same_product, none_right, times_counter}
@@ -155,27 +155,27 @@ pub record IsRaisedTo (M n : ℕ) (old new : Polynomials) : Type 0 where
 pub raised_first : (M : ℕ) (old : Polynomials) → IsRaisedTo M 1 old old
 raised_first M old = record { canon = λ x c. c; below = λ j m top lt is. absurd (omega arith); rest = λ j m le. refl }
 
-pub raised_step : (M j : ℕ) (t : Tree) (ts : List Tree) (old new : Polynomials) → 1 ≤ j → j < length ts → t ≡ get_or ts j t → IsRaisedTo M j old (polynomials ts) → IsPut M (j - 1) 1 (polynomial_of t) (polynomials ts) new → IsRaisedTo M (j + 1) old new
-raised_step M j t ts old new pos lt e a p = record {
-  canon = λ x c. (let d = a.canon x c in p.canon x d (canon_of M x ts j t e d lt) (under_of M x ts j t e d lt));
+pub raised_step : (M j : ℕ) (t : Polynomial) (old mid new : Polynomials) → 1 ≤ j → ((m : List Power) → place mid j m ≡ coefficient t m) → ((x : ℕ) → AreCanonical M mid x → Under t x × IsCanonical M t) → IsRaisedTo M j old mid → IsPut M (j - 1) 1 t mid new → IsRaisedTo M (j + 1) old new
+raised_step M j t old mid new pos at whole a p = record {
+  canon = λ x c. (let d = a.canon x c in let w = whole x d in p.canon x d w.1 w.0);
   below = λ k m top lk is. elim (cases_eq k (j - 1)) [
     | inl eq ↦ (let n : j ≡ suc (j - 1) = omega arith in
         let here = p.here m top is in
         let left = a.rest (j - 1) m (omega arith) in
-        let right : coefficient (polynomial_of t) m ≡ place old (suc (j - 1)) m = sym (place_of ts j t m e lt) ∙ (a.rest j m (omega arith) ∙ ap (λ z. place old z m) n) in
-        let sum : place (polynomials ts) (j - 1) m + 1 * coefficient (polynomial_of t) m ≡ place old (j - 1) m + place old (suc (j - 1)) m = omega arith in
+        let right : coefficient t m ≡ place old (suc (j - 1)) m = sym (at m) ∙ (a.rest j m (omega arith) ∙ ap (λ z. place old z m) n) in
+        let sum : place mid (j - 1) m + 1 * coefficient t m ≡ place old (j - 1) m + place old (suc (j - 1)) m = omega arith in
         subst (λ z. place new z m ≡ (place old z m + place old (suc z) m) % M) (sym eq) (here ∙ ap (λ z. z % M) sum))
     | inr ne ↦ p.other k m ne ∙ a.below k m top (omega arith) is
   ];
   rest = λ k m le. p.other k m (λ e. omega arith) ∙ a.rest k m (omega arith);
 }
 
-pub raised_end : (M n : ℕ) (ts : List Tree) (new : Polynomials) → 0 < M → (x : ℕ) → AreCanonical M (polynomials ts) x → length ts ≤ n → ((j : ℕ) (m : List Power) → length ts ≤ j → place (polynomials ts) j m ≡ 0) → IsRaisedTo M n (polynomials ts) new → IsRaised M (polynomials ts) new
-raised_end M n ts new some x c le past a = record {
+pub raised_end : (M n l : ℕ) (old new : Polynomials) → 0 < M → (x : ℕ) → AreCanonical M old x → l ≤ n → ((j : ℕ) (m : List Power) → l ≤ j → place old j m ≡ 0) → IsRaisedTo M n old new → IsRaised M old new
+raised_end M n l old new some x c le past a = record {
   canon = a.canon;
   at = λ j m top is. elim (cases_lt (suc j) n) [
     | inl lt ↦ a.below j m top lt is
-    | inr ge ↦ (let z = past (suc j) m (omega arith) in let s : place (polynomials ts) j m + place (polynomials ts) (suc j) m ≡ place (polynomials ts) j m = omega arith in a.rest j m ge ∙ sym (ap (λ n. n % M) s ∙ mod-eq_of_lt (fits_place M (polynomials ts) j m x some c)))
+    | inr ge ↦ (let z = past (suc j) m (omega arith) in let s : place old j m + place old (suc j) m ≡ place old j m = omega arith in a.rest j m ge ∙ sym (ap (λ n. n % M) s ∙ mod-eq_of_lt (fits_place M old j m x some c)))
   ];
 }
 

@@ -11,9 +11,10 @@ use Rattle.scev_tree.proofs.Rows.{len_is}
 use Rattle.scev_tree.proofs.Places.{fits_place, place_of}
 use Rattle.scev_tree.proofs.Ends.{zero_coeff}
 use Rattle.chrec_algebra.specs.Align.{AreSides}
+use Rattle.chrec_algebra.specs.Onto.{IsAddedIn}
 use Rattle.chrec_algebra.specs.Places.{AreRisen, IsOpened}
-use Rattle.chrec_algebra.specs.Product.{times, sum_to, product_at, row_factor, IsAdded, IsProduct, IsProductIn, IsProductAdded, IsProductAddedIn, IsProductPut, IsRow, AreRows}
-use Rattle.chrec_algebra.proofs.Products.{add_same, mul_same, sum_zero, same_product, times_outside, times_symbol, times_other, plus_same, ext_added}
+use Rattle.chrec_algebra.specs.Product.{times, sum_to, product_at, row_factor, IsAdded, IsProduct, AreProducts, IsProductAdded, IsProductAddedIn, IsProductPut, IsRow, AreRows}
+use Rattle.chrec_algebra.proofs.Products.{add_same, mul_same, sum_zero, same_product, times_outside, times_symbol, times_other, plus_same, ext_added, ext_at}
 use Rattle.chrec_algebra.proofs.Values.{sum_only, height, under_height}
 use Rattle.chrec_algebra.proofs.Factors.{number_left, number_right}
 use Rattle.chrec_algebra.proofs.Parts.{set_here, set_other, set_canon, under_here, even_key, odd_of}
@@ -68,28 +69,28 @@ product_put M k c ts us vs o p' z r p q lt eo ep eu ev s =
 pub row_first : (M c x i : ℕ) (p : Polynomial) (us old : Polynomials) → AreCanonical M old x → IsRow M c x i 0 p us old old
 row_first M c x i p us old co = record { canon = co; at = λ j m top lt is. absurd (omega arith); other = λ k m h. refl }
 
-pub row_step : (M c x i j by : ℕ) (p : Polynomial) (q : Tree) (us : List Tree) (old mid new : Polynomials) → j < length us → q ≡ get_or us j q → by % M ≡ (c * row_factor x i j) % M → Under p x → Under (polynomial_of q) x → IsRow M c x i j p (polynomials us) old mid → IsProductPut M (i + j) by p (polynomial_of q) mid new → IsRow M c x i (j + 1) p (polynomials us) old new
-row_step M c x i j by p q us old mid new lt eq eb up uq r s = record {
+pub row_step : (M c x i j by : ℕ) (p q : Polynomial) (us old mid new : Polynomials) → ((n : List Power) → place us j n ≡ coefficient q n) → by % M ≡ (c * row_factor x i j) % M → Under p x → Under q x → IsRow M c x i j p us old mid → IsProductPut M (i + j) by p q mid new → IsRow M c x i (j + 1) p us old new
+row_step M c x i j by p q us old mid new at eb up uq r s = record {
   canon = s.canon x r.canon up uq;
   at = λ k m top lk is. elim (cases_eq k j) [
-    | inl e ↦ subst (λ z. place new (i + z) m ≡ (place old (i + z) m + c * (row_factor x i z * product_at (coefficient p) (place (polynomials us) z) m)) % M) (sym e) (here m top is)
+    | inl e ↦ subst (λ z. place new (i + z) m ≡ (place old (i + z) m + c * (row_factor x i z * product_at (coefficient p) (place us z) m)) % M) (sym e) (here m top is)
     | inr ne ↦ s.other (i + k) m (λ e. ne (omega arith)) ∙ r.at k m top (omega arith) is
   ];
   other = λ k m h. s.other k m (λ e. elim h [ inl a ↦ omega arith | inr b ↦ omega arith ]) ∙ r.other k m (elim h [ inl a ↦ inl a | inr b ↦ inr (omega arith) ]);
 }
   where
-    fun : place (polynomials us) j ≡ coefficient (polynomial_of q)
-    fun = λ z n. place_of us j q n eq lt z
+    fun : place us j ≡ coefficient q
+    fun = λ z n. at n z
 
-    here : (m : List Power) (top : ℕ) → IsMonomial m top → place new (i + j) m ≡ (place old (i + j) m + c * (row_factor x i j * product_at (coefficient p) (place (polynomials us) j) m)) % M
+    here : (m : List Power) (top : ℕ) → IsMonomial m top → place new (i + j) m ≡ (place old (i + j) m + c * (row_factor x i j * product_at (coefficient p) (place us j) m)) % M
     here m top is =
-        let P = product_at (coefficient p) (place (polynomials us) j) m in
-        let same : product_at (coefficient p) (coefficient (polynomial_of q)) m ≡ P = ap (λ (g : List Power → ℕ). product_at (coefficient p) g m) (sym fun) in
+        let P = product_at (coefficient p) (place us j) m in
+        let same : product_at (coefficient p) (coefficient q) m ≡ P = ap (λ (g : List Power → ℕ). product_at (coefficient p) g m) (sym fun) in
         let F = row_factor x i j in
         let assoc : (c * F) * P ≡ c * (F * P) = omega arith in
         s.here m top is
-        ∙ (ap (λ z. (z + by * product_at (coefficient p) (coefficient (polynomial_of q)) m) % M) (r.other (i + j) m (inr (omega arith)))
-        ∙ add_same M (place old (i + j) m) _ (place old (i + j) m) (c * (F * P)) refl (mul_same M by (product_at (coefficient p) (coefficient (polynomial_of q)) m) (c * F) P eb (ap (λ z. z % M) same) ∙ ap (λ z. z % M) assoc))
+        ∙ (ap (λ z. (z + by * product_at (coefficient p) (coefficient q) m) % M) (r.other (i + j) m (inr (omega arith)))
+        ∙ add_same M (place old (i + j) m) _ (place old (i + j) m) (c * (F * P)) refl (mul_same M by (product_at (coefficient p) (coefficient q) m) (c * F) P eb (ap (λ z. z % M) same) ∙ ap (λ z. z % M) assoc))
 
 -- what a row gives to its places
 abbrev pub Gives : (M x i : ℕ) (p : Polynomial) (us qs : Polynomials) → Type 0
@@ -157,11 +158,11 @@ added_in M c x r t rest old ps qs start out some co cp cq o a b s = record {
       s.at m top is ∙ (add_same M R (1 * T) R (E + c * P) refl (ap (λ z. z % M) (one ∙ e) ∙ mod-mod (E + c * P) M) ∙ ap (λ z. z % M) h));
 }
 
-pub chain_added : (M c x : ℕ) (r t old : Polynomial) (ps qs : Polynomials) → IsProductIn M x t ps qs → IsAdded M c r old t → IsProductAddedIn M c x r old ps qs
-chain_added M c x r t old ps qs p s = record {
+pub chain_added : (M c x : ℕ) (r old : Polynomial) (rs ps qs : Polynomials) → 0 < M → AreCanonical M ps x → AreCanonical M qs x → AreProducts M x rs ps qs → IsAddedIn M c x r old rs → IsProductAddedIn M c x r old ps qs
+chain_added M c x r old rs ps qs some cp cq p s = record {
   canon = s.canon;
-  under = λ y lt uo. s.under y uo (p.under y lt);
-  at = λ m top is. (let P = product_at (coefficient (ext x ps)) (coefficient (ext x qs)) m in plus_same M (coefficient r m) (coefficient old m) c (coefficient t m) P (s.at m top is) (ap (λ z. z % M) (p.at m top is) ∙ mod-mod P M));
+  under = s.under;
+  at = λ m top is. (let P = product_at (coefficient (ext x ps)) (coefficient (ext x qs)) m in plus_same M (coefficient r m) (coefficient old m) c (coefficient (ext x rs) m) P (s.at m top is) (ap (λ z. z % M) (ext_at M x rs ps qs cp cq p some m top is) ∙ mod-mod P M));
 }
 
 pub added_of_sides : (M c x : ℕ) (r old a b : Polynomial) (ps qs : Polynomials) → AreSides x ps qs a b → IsCanonical M a → IsCanonical M b → IsProductAddedIn M c x r old ps qs → IsProductAdded M c r old a b

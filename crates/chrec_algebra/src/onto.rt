@@ -1,13 +1,14 @@
-ghost use Rattle.std.specs.Prelude.{◌≡◌, ℕ, ◌<◌, ◌≤◌, ◌^◌, IfOk, IfSome, length};
+ghost use Rattle.std.specs.Prelude.{◌≡◌, ℕ, ◌<◌, ◌≤◌, ◌^◌, List, IfOk, IfSome, length};
 ghost use Rattle.chrec_algebra.specs.Align.{IsSide};
 ghost use Rattle.chrec_algebra.specs.Product.{IsAdded, IsPut};
-ghost use Rattle.chrec_algebra.specs.Onto.{AreAdded};
-ghost use Rattle.scev_tree.specs.Polynomial.{Polynomial, ext, IsCanonical, AreCanonical, IsBuilt, variable_of};
+ghost use Rattle.chrec_algebra.specs.Onto.{AreAdded, AreFirst, IsAddedIn};
+ghost use Rattle.chrec_algebra.specs.Numbers.{numbers};
+ghost use Rattle.scev_tree.specs.Polynomial.{Polynomial, Power, num, place, ext, IsCanonical, AreCanonical, IsBuilt, variable_of};
 ghost use Rattle.scev_tree.specs.Tree.{polynomial_of, polynomials};
 
 use crate::sum::add_multiple;
 use arith_word::{Label, Width};
-use scev_tree::{Tree, is_zero, rank, scale_tree};
+use scev_tree::{Tree, build, is_zero, rank, scale_tree};
 use sqlite_items::Items;
 use std::alloc::{AllocError, Global};
 use std::slice;
@@ -113,6 +114,18 @@ fn add_in_places(
     Ok(rebuild(counter, var, ops)?)
 }
 
+#[tactic(auto, using(crate::proofs::Sides::polynomial_of_num))]
+fn add_to_number(alloc: Global, w: Width, u: u64, c: u64, t: &Tree) -> Result<Tree, AllocError>
+    requires number { u < 2 ^ w }
+    requires tree { IsCanonical (2 ^ w) (polynomial_of t.now) }
+    ensures { IfOk result (λ r. IsAdded (2 ^ w) c (polynomial_of r) (num u) (polynomial_of t.now)) }
+{
+    if u == 0 {
+        return Ok(scale_tree(alloc, w, t, c)?);
+    }
+    Ok(add_multiple(alloc, w, &Tree::Num(u), c, t)?)
+}
+
 /// `old + c * t` modulo 2 to the width, in the memory of `old` where its variable isn't below that
 /// of t.
 #[tactic(auto, using(crate::proofs::Sides::polynomial_of_ext, crate::proofs::Sides::polynomial_of_num))]
@@ -122,10 +135,113 @@ pub fn add_onto(alloc: Global, w: Width, old: Tree, c: u64, t: &Tree) -> Result<
     ensures { IfOk result (λ r. IsAdded (2 ^ w) c (polynomial_of r) (polynomial_of old) (polynomial_of t.now)) }
 {
     match old {
-        Tree::Num(u) => Ok(add_multiple(alloc, w, &Tree::Num(u), c, t)?),
+        Tree::Num(u) => Ok(add_to_number(alloc, w, u, c, t)?),
         Tree::Ext { counter, var, ops } => match places_in(counter, var, t) {
             Some(ts) => Ok(add_in_places(alloc, w, counter, var, ops, c, ts)?),
             None => Ok(add_multiple(alloc, w, &Tree::Ext { counter, var, ops }, c, t)?),
         },
+    }
+}
+
+/// `old + c * t`, where t is moved if nothing is there.
+pub fn settle(alloc: Global, w: Width, old: Tree, c: u64, t: Tree) -> Result<Tree, AllocError>
+    requires old { IsCanonical (2 ^ w) (polynomial_of old) }
+    requires tree { IsCanonical (2 ^ w) (polynomial_of t) }
+    ensures { IfOk result (λ r. IsAdded (2 ^ w) c (polynomial_of r) (polynomial_of old) (polynomial_of t)) }
+{
+    if c == 1 && is_zero(&old) {
+        return Ok(t);
+    }
+    Ok(add_onto(alloc, w, old, c, &t)?)
+}
+
+// Adds c times the first `count` of the numbers to the places.
+fn add_numbers(
+    alloc: Global,
+    w: Width,
+    ops: &mut Items<Tree>,
+    c: u64,
+    vs: &[u64; 18],
+    count: usize,
+) -> Result<(), AllocError>
+    requires count { count ≤ 18 }
+    requires places { (x : ℕ) × AreCanonical (2 ^ w) (polynomials ops.old) x × AreCanonical (2 ^ w) (numbers vs.now) x }
+    ensures { IfOk result (λ _. AreAdded (2 ^ w) c count (numbers vs.now) (polynomials ops.old) (polynomials ops.new)) }
+{
+    for k in 0..count {
+        add_to_place(alloc, w, ops, k, c, &Tree::Num(vs[k]))?;
+    }
+    Ok(())
+}
+
+// The first `count` of the numbers as trees.
+fn number_trees(alloc: Global, vs: &[u64; 18], count: usize) -> Result<Vec<Tree>, AllocError>
+    requires count { count ≤ 18 }
+    ensures { IfOk result (λ r. AreFirst count (polynomials r.items) (numbers vs.now)) }
+{
+    let mut out = Vec::with_capacity(alloc, count)?;
+    for k in 0..count {
+        out.push(Tree::Num(vs[k]))?;
+    }
+    Ok(out)
+}
+
+// The same where the tree is in another variable, or a number.
+fn settle_numbers(
+    alloc: Global,
+    w: Width,
+    old: Tree,
+    c: u64,
+    counter: bool,
+    var: Label,
+    vs: &[u64; 18],
+    count: usize,
+) -> Result<Tree, AllocError>
+    requires old { IsCanonical (2 ^ w) (polynomial_of old) }
+    requires numbers { AreCanonical (2 ^ w) (numbers vs.now) (variable_of counter var.0) }
+    requires count { count ≤ 18 }
+    requires rest { (k : ℕ) (m : List Power) → count ≤ k → place (numbers vs.now) k m ≡ 0 }
+    ensures { IfOk result (λ r. IsAddedIn (2 ^ w) c (variable_of counter var.0) (polynomial_of r) (polynomial_of old) (numbers vs.now)) }
+{
+    let places = number_trees(alloc, vs, count)?;
+    let chain = build(counter, var, places);
+    Ok(settle(alloc, w, old, c, chain)?)
+}
+
+/// Adds c times the polynomial in this variable whose places are the first `count` of the numbers.
+pub fn add_chain(
+    alloc: Global,
+    w: Width,
+    old: Tree,
+    c: u64,
+    counter: bool,
+    var: Label,
+    vs: &[u64; 18],
+    count: usize,
+) -> Result<Tree, AllocError>
+    requires old { IsCanonical (2 ^ w) (polynomial_of old) }
+    requires numbers { AreCanonical (2 ^ w) (numbers vs.now) (variable_of counter var.0) }
+    requires count { count ≤ 18 }
+    requires rest { (k : ℕ) (m : List Power) → count ≤ k → place (numbers vs.now) k m ≡ 0 }
+    ensures { IfOk result (λ r. IsAddedIn (2 ^ w) c (variable_of counter var.0) (polynomial_of r) (polynomial_of old) (numbers vs.now)) }
+{
+    match old {
+        Tree::Num(u) => Ok(settle_numbers(alloc, w, Tree::Num(u), c, counter, var, vs, count)?),
+        Tree::Ext {
+            counter: other,
+            var: to,
+            mut ops,
+        } => {
+            if rank(other, to) == rank(counter, var) {
+                add_numbers(alloc, w, &mut ops, c, vs, count)?;
+                return Ok(rebuild(counter, var, ops)?);
+            }
+            let old = Tree::Ext {
+                counter: other,
+                var: to,
+                ops,
+            };
+            Ok(settle_numbers(alloc, w, old, c, counter, var, vs, count)?)
+        }
     }
 }

@@ -1,15 +1,14 @@
 ghost use Rattle.std.specs.Prelude.{◌≡◌, ℕ, true, false, ◌+◌, ◌*◌, ◌%◌, ◌<◌, ◌≤◌, ◌^◌, ◌⊎◌, IfOk, length, vec_len};
-ghost use Rattle.chrec_algebra.specs.Product.{IsAdded, IsProduct, IsProductIn, IsProductAdded, IsProductAddedIn, IsProductPut, IsRow, AreRows, Narrow, NarrowAll, row_factor as row_factor_of};
+ghost use Rattle.chrec_algebra.specs.Product.{IsAdded, IsProduct, IsProductIn, IsProductAdded, IsProductAddedIn, IsProductPut, IsRow, AreRows, Narrow, NarrowAll};
 ghost use Rattle.scev_tree.specs.Polynomial.{IsCanonical, AreCanonical, Under, variable_of};
 ghost use Rattle.scev_tree.specs.Tree.{polynomial_of, polynomials};
 
 use crate::align::{Aligned, align};
-use crate::chains::{are_numbers, mul_chains};
-use crate::coefficients::binomial;
-use crate::onto::add_onto;
+use crate::chains::{are_numbers, multiply_chains, row_factor};
+use crate::onto::{add_chain, add_onto, settle};
 use crate::places::{copy_places, open, raise_to};
 use arith_word::{Label, Width, mul};
-use scev_tree::{Tree, build, is_zero};
+use scev_tree::{Tree, build};
 use std::alloc::{AllocError, Global};
 use std::mem;
 
@@ -23,18 +22,6 @@ pub fn mul_trees(alloc: Global, w: Width, a: &Tree, b: &Tree) -> Result<Tree, Al
     ensures { IfOk result (λ r. IsProduct (2 ^ w) (polynomial_of r) (polynomial_of a.now) (polynomial_of b.now)) }
 {
     Ok(add_product(alloc, w, Tree::Num(0), 1, a, b)?)
-}
-
-// `old + c * t`, where t is moved if nothing is there.
-fn settle(alloc: Global, w: Width, old: Tree, c: u64, t: Tree) -> Result<Tree, AllocError>
-    requires old { IsCanonical (2 ^ w) (polynomial_of old) }
-    requires tree { IsCanonical (2 ^ w) (polynomial_of t) }
-    ensures { IfOk result (λ r. IsAdded (2 ^ w) c (polynomial_of r) (polynomial_of old) (polynomial_of t)) }
-{
-    if c == 1 && is_zero(&old) {
-        return Ok(t);
-    }
-    Ok(add_onto(alloc, w, old, c, &t)?)
 }
 
 // `old + c * a * b` in the memory of `old`.
@@ -112,9 +99,9 @@ fn add_product_in(
     ensures { IfOk result (λ r. IsProductAddedIn (2 ^ w) c (variable_of counter var.0) (polynomial_of r) (polynomial_of old) (polynomials ps.now) (polynomials qs.now)) }
 {
     if are_numbers(ps) && are_numbers(qs) {
-        let places = mul_chains(alloc, w, counter, ps, qs)?;
-        let product = build(counter, var, places);
-        return Ok(settle(alloc, w, old, c, product)?);
+        let product = multiply_chains(w, counter, var, ps, qs);
+        let count = (ps.len() + qs.len()).saturating_sub(1);
+        return Ok(add_chain(alloc, w, old, c, counter, var, &product, count)?);
     }
     let mut opened = open(alloc, counter, var, old, ps.len() + qs.len())?;
     add_rows(alloc, w, &mut opened.places, c, counter, var, ps, qs)?;
@@ -210,20 +197,6 @@ fn add_rows_of_counter(
         add_row(alloc, w, out, c, true, var, i, p, us.as_slice())?;
     }
     Ok(())
-}
-
-// The number that the place i times the place j goes with in the place i + j.
-fn row_factor(w: Width, counter: bool, var: Label, c: u64, i: usize, j: usize) -> u64
-    requires left { i ≤ 8 }
-    requires right { j ≤ 8 }
-    ensures { result % 2 ^ w ≡ (c * row_factor_of (variable_of counter var.0) i j) % 2 ^ w }
-{
-    let _ = var;
-    if counter {
-        mul(w, c, binomial(i + j, i))
-    } else {
-        c
-    }
 }
 
 // Adds c times the products of p, which is place i, with all of qs.

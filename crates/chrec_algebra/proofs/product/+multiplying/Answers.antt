@@ -4,11 +4,11 @@ use Rattle.scev_tree.specs.Polynomial.{variable_of}
 use Rattle.scev_tree.specs.declared.tree.Tree.{Tree}
 use Rattle.scev_tree.specs.Tree.{polynomials, polynomial_of, len}
 use Rattle.scev_tree.proofs.Rows.{len_is, polynomial_of_num}
-use Rattle.scev_tree.proofs.Places.{canon_of, under_of}
+use Rattle.scev_tree.proofs.Places.{canon_of, under_of, place_of}
 use Rattle.chrec_algebra.specs.Places.{AreRisen}
 use Rattle.chrec_algebra.proofs.InPlace.{canon_taken}
-use Rattle.chrec_algebra.proofs.NumberChains.{products_built, parity_of}
 use Rattle.chrec_algebra.proofs.Narrowing.{narrow_risen}
+use Rattle.chrec_algebra.proofs.NumberChains.{past_products}
 use Rattle.chrec_algebra.proofs.Parts.{narrow_of}
 use Rattle.chrec_algebra.proofs.Rising.{risen_first}
 use Rattle.chrec_algebra.proofs.RowsOfProducts.{number_added_left, number_added_right, product_put, row_step, rows_first, counter_rows_step, plain_rows_step, added_in, chain_added, added_of_sides, below_height, sides_below}
@@ -36,8 +36,7 @@ add_nested_product-returns-in_ok-add_product_in-in-Places t c = added_of_sides _
 pub add_product_in-returns-then-are_numbers-2 : goal.add_product_in-returns-then-are_numbers-2
 add_product_in-returns-then-are_numbers-2 t c =
     let x = variable_of c.args.counter c.args.var.0 in
-    let prods = c.in_ok-places.ensures x (parity_of c.args.counter c.args.var.0) in
-    chain_added (2 ^ c.args.w) c.args.c x _ _ _ (polynomials c.args.ps.now) (polynomials c.args.qs.now) (products_built (2 ^ c.args.w) x _ (polynomials c.in_ok-places.places.items) _ _ (pow_pos c.args.w) c.requires.left c.requires.right prods (c.build-product.ensures (2 ^ c.args.w) (pow_pos c.args.w) prods.canon)) c.in_ok-settle.ensures
+    chain_added (2 ^ c.args.w) c.args.c x _ _ _ (polynomials c.args.ps.now) (polynomials c.args.qs.now) (pow_pos c.args.w) c.requires.left c.requires.right c.multiply_chains-product.ensures.products c.in_ok-add_chain.ensures
 
 pub add_product_in-add_rows-requires : goal.add_product_in-add_rows-requires
 add_product_in-add_rows-requires t c =
@@ -45,7 +44,7 @@ add_product_in-add_rows-requires t c =
     (omega arith, (c.in_ok-opened.ensures.count, (o.0, (c.requires.left, (c.requires.right, (c.requires.left_count, (c.requires.right_count, (c.requires.narrow_left, c.requires.narrow_right))))))))
 
 pub add_product_in-returns : goal.add_product_in-returns
-add_product_in-returns t c = added_in (2 ^ c.args.w) c.args.c (variable_of c.args.counter c.args.var.0) _ _ _ _ c.args.ps.now (polynomials c.args.qs.now) _ _ (pow_pos c.args.w) c.requires.old c.requires.left c.requires.right c.in_ok-opened.ensures.opened c.in_ok-add_rows.ensures (c.build-sum.ensures (2 ^ c.args.w) (pow_pos c.args.w) c.in_ok-add_rows.ensures.canon) c.in_ok-settle-2.ensures
+add_product_in-returns t c = added_in (2 ^ c.args.w) c.args.c (variable_of c.args.counter c.args.var.0) _ _ _ _ c.args.ps.now (polynomials c.args.qs.now) _ _ (pow_pos c.args.w) c.requires.old c.requires.left c.requires.right c.in_ok-opened.ensures.opened c.in_ok-add_rows.ensures (c.build-sum.ensures (2 ^ c.args.w) (pow_pos c.args.w) c.in_ok-add_rows.ensures.canon) c.in_ok-settle.ensures
 
 pub add_plain_rows-add_row-requires : goal.add_plain_rows-add_row-requires
 add_plain_rows-add_row-requires t c =
@@ -96,7 +95,7 @@ add_plain_rows-loop-i-preserved t c = (omega (arith, c.loop-i.invariant.0, c.in_
 pub add_row-loop-j-preserved : goal.add_row-loop-j-preserved
 add_row-loop-j-preserved t c =
     let x = variable_of c.args.counter c.args.var.0 in
-    (omega (arith, c.loop-j.invariant.0, c.in_ok-put_product.ensures.count), row_step _ c.args.c x c.args.i c.loop-j.j c.row_factor-by.result _ c.index-qs-j.result c.args.qs.now _ (polynomials c.loop-j.out.items) _ c.loop-j-test.true c.index-qs-j.is c.row_factor-by.ensures c.requires.under (under_of (2 ^ c.args.w) x c.args.qs.now c.loop-j.j _ c.index-qs-j.is c.requires.right c.loop-j-test.true) c.loop-j.invariant.1 c.in_ok-put_product.ensures.put)
+    (omega (arith, c.loop-j.invariant.0, c.in_ok-put_product.ensures.count), row_step _ c.args.c x c.args.i c.loop-j.j c.row_factor-by.result _ _ _ _ (polynomials c.loop-j.out.items) _ (λ n. place_of c.args.qs.now c.loop-j.j _ n c.index-qs-j.is c.loop-j-test.true) c.row_factor-by.ensures c.requires.under (under_of (2 ^ c.args.w) x c.args.qs.now c.loop-j.j _ c.index-qs-j.is c.requires.right c.loop-j-test.true) c.loop-j.invariant.1 c.in_ok-put_product.ensures.put)
 
 pub add_rows_of_counter-loop-i-init : goal.add_rows_of_counter-loop-i-init
 add_rows_of_counter-loop-i-init t c =
@@ -143,3 +142,6 @@ add_rows_of_counter-loop-i-preserved t c =
     let l = len_is c.args.qs.now in
     let count : length c.as_slice.result.now ≡ len (polynomials c.args.qs.now) = omega (arith, ap (length {A = Tree}) c.as_slice.ensures.value, c.in_ok-raise_to.ensures.count, c.loop-i.invariant.0, l) in
     (omega (arith, c.in_ok-raise_to.ensures.count, c.loop-i.invariant.0), omega (arith, c.loop-i.invariant.1, c.in_ok-add_row.ensures.count), subst (λ k. AreRisen (2 ^ c.args.w) x k (polynomials c.raise_to.new.us.items) (polynomials c.args.qs.now)) back up, counter_rows_step _ c.args.c c.loop-i.i _ c.args.var.0 c.index-ps-i.result c.args.ps.now _ _ _ (polynomials c.loop-i.out.items) _ c.loop-i-test.true c.requires.left_count count (omega (arith, l, c.requires.right_count)) c.index-ps-i.is risen c.loop-i.invariant.3 c.in_ok-add_row.ensures.row)
+
+pub add_product_in-add_chain-requires-clause-rest : goal.add_product_in-add_chain-requires-clause-rest
+add_product_in-add_chain-requires-clause-rest t c = past_products (2 ^ c.args.w) (variable_of c.args.counter c.args.var.0) c.saturating_sub-count.result c.multiply_chains-product.result c.args.ps.now c.args.qs.now (pow_pos c.args.w) c.saturating_sub-count.ensures c.multiply_chains-product.ensures.products

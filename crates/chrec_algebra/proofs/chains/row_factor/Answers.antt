@@ -1,6 +1,6 @@
 use Rattle.std.proofs.Common.{◌^◌}
 use Rattle.chrec_algebra.proofs.RowsOfProducts.{factor_counter, factor_symbol}
-use Rattle.chrec_algebra.proofs.product.row_factor.Goals as goal
+use Rattle.chrec_algebra.proofs.chains.row_factor.Goals as goal
 
 pub returns-then-counter : goal.returns-then-counter
 returns-then-counter c = factor_counter (2 ^ c.args.w) c.args.c c.args.i c.args.j c.binomial.result c.mul.result c.args.counter c.args.var.0 c.if-counter.true c.binomial.ensures c.mul.ensures
