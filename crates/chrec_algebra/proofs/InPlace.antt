@@ -1,10 +1,10 @@
 -- multiples that are added to places
-use Rattle.std.proofs.Common.{◌≡◌, ℕ, zero, suc, ◌+◌, ◌*◌, ◌%◌, ◌<◌, ◌≤◌, inl, inr, List, [], ◌∷◌, ◌++◌, refl, ap, ◌∙◌, sym, subst, arith, length, length-append, get_or, Bool}
+use Rattle.std.proofs.Common.{◌≡◌, ℕ, zero, suc, ◌+◌, ◌*◌, ◌%◌, ◌<◌, ◌≤◌, ◌⊎◌, inl, inr, List, [], ◌∷◌, ◌++◌, refl, ap, ◌∙◌, sym, subst, arith, length, length-append, get_or, Bool, true, false, not}
 use Rattle.std.proofs.lemmas.Bool.{eq-eqb, ne_eqb, cases_order, cases_lt, cases_eq}
 use Rattle.std.proofs.Math.Nat.{mod-eq_of_lt}
 use Rattle.arith_word.specs.declared.label.Label.{Label}
 use Rattle.scev_tree.specs.declared.tree.Tree.{Tree, Num, Ext}
-use Rattle.scev_tree.specs.Polynomial.{Polynomial, Polynomials, num, ext, Power, coefficient, place, IsMonomial, Under, IsCanonical, AreCanonical, IsNonzero, IsScaled, IsBuilt, variable_of}
+use Rattle.scev_tree.specs.Polynomial.{Polynomial, Polynomials, num, ext, Power, coefficient, place, IsMonomial, Under, IsCanonical, AreCanonical, IsScaled, IsBuilt, variable_of}
 use Rattle.scev_tree.specs.Tree.{polynomials, polynomial_of, EndsZero, Tidy}
 use Rattle.scev_tree.proofs.Ends.{snoc_below, snoc_last, canon_snoc, past_list, zero_coeff, trim_first, trim_last, build_from, build_one}
 use Rattle.scev_tree.proofs.Places.{fits_place, canon_of}
@@ -14,7 +14,7 @@ use Rattle.chrec_algebra.specs.Onto.{AreAdded, AreFirst, IsAddedIn}
 use Rattle.chrec_algebra.specs.Numbers.{numbers}
 use Rattle.scev_tree.proofs.Rows.{polynomial_of_num}
 use Rattle.std.proofs.Math.ListN.{set}
-use Rattle.chrec_algebra.proofs.Parts.{put_is}
+use Rattle.chrec_algebra.proofs.Parts.{put_is, num_added}
 
 -- ---- the tree of the places
 
@@ -22,39 +22,33 @@ pub place_coeff : (x : ℕ) (ps qs : Polynomials) → ((j : ℕ) (m : List Power
 place_coeff x ps qs h [] = h 0 []
 place_coeff x ps qs h (q ∷ m) = elim (cases_order q.var x) [ inl e ↦ rw (eq-eqb q.var x e) (h q.exp m) | inr ne ↦ rw (ne_eqb q.var x (λ e. elim ne [ inl l ↦ omega arith | inr g ↦ omega arith ])) (h 0 (q ∷ m)) ]
 
-ends : (ts : List Tree) (t : Tree) → polynomial_of t ≡ num 0 → EndsZero (polynomials (ts ++ t ∷ []))
-ends [] t z = z
-ends (u ∷ []) t z = z
-ends (u ∷ v ∷ ts) t z = ends (v ∷ ts) t z
+pub not_true : (b : Bool) → not b ≡ true → b ≡ false
+not_true true e = sym e
+not_true false e = refl
 
-nonzero : (p : Polynomial) → (p ≡ num 0 → ⊥) → IsNonzero p
-nonzero (num v) ne = elim (cases_lt 0 v) [ inl l ↦ l | inr g ↦ (let e : v ≡ 0 = omega arith in absurd (ne (ap num e))) ]
-nonzero (ext x ps) ne = tt
+pub not_false : (b : Bool) → not b ≡ false → b ≡ true
+not_false true e = refl
+not_false false e = sym e
 
-tidy : (ts : List Tree) (t : Tree) → (polynomial_of t ≡ num 0 → ⊥) → Tidy (polynomials (ts ++ t ∷ []))
-tidy [] t z = nonzero (polynomial_of t) z
-tidy (u ∷ []) t z = nonzero (polynomial_of t) z
-tidy (u ∷ v ∷ ts) t z = tidy (v ∷ ts) t z
+some_length : (ts : List Tree) → (ts ≡ [] → ⊥) → 0 < length ts
+some_length [] ne = absurd (ne refl)
+some_length (t ∷ ts) ne = omega arith
 
-pub without_zero : (M x : ℕ) (us ts : List Tree) (t : Tree) (r : Polynomial) → us ≡ ts ++ t ∷ [] → polynomial_of t ≡ num 0 → (AreCanonical M (polynomials ts) x → IsBuilt M x (polynomials ts) r) → AreCanonical M (polynomials us) x → IsBuilt M x (polynomials us) r
-without_zero M x us ts t r e z built c =
-    let z' : EndsZero (polynomials us) = subst (λ (vs : List Tree). EndsZero (polynomials vs)) (sym e) (ends ts t z) in
-    let s = trim_last (polynomials us) us ts t (trim_first (polynomials us)) e z' in
+pub without_zero : (M x : ℕ) (us ts : List Tree) (t : Tree) (r : Polynomial) → us ≡ ts ++ t ∷ [] → (ts ≡ [] → ⊥) → (length us ≤ 1) ⊎ EndsZero (polynomials us) → (AreCanonical M (polynomials ts) x → IsBuilt M x (polynomials ts) r) → AreCanonical M (polynomials us) x → IsBuilt M x (polynomials us) r
+without_zero M x us ts t r e ne h built c =
+    let count : length us ≡ length ts + 1 = ap (length {A = Tree}) e ∙ length-append ts (t ∷ []) in
+    let z : EndsZero (polynomials us) = elim h [ inl few ↦ absurd (omega (arith, count, some_length ts ne)) | inr z ↦ z ] in
+    let s = trim_last (polynomials us) us ts t (trim_first (polynomials us)) e z in
     let b = built (s.canon M x c) in
     record { canon = b.canon; under = b.under; at = λ m top is. b.at m top is ∙ place_coeff x (polynomials ts) (polynomials us) s.at m }
 
 pub alone : (M x : ℕ) (us ts : List Tree) (t : Tree) → us ≡ ts ++ t ∷ [] → ts ≡ [] → AreCanonical M (polynomials us) x → IsBuilt M x (polynomials us) (polynomial_of t)
 alone M x us ts t e n c = build_one M x (polynomials us) us t (e ∙ ap (λ (vs : List Tree). vs ++ t ∷ []) n) (trim_first (polynomials us)) c
 
-some_length : (ts : List Tree) → (ts ≡ [] → ⊥) → 0 < length ts
-some_length [] ne = absurd (ne refl)
-some_length (t ∷ ts) ne = omega arith
-
-pub together : (M : ℕ) (c : Bool) (x : Label) (us ts vs : List Tree) (t : Tree) → us ≡ ts ++ t ∷ [] → vs ≡ ts ++ t ∷ [] → (ts ≡ [] → ⊥) → (polynomial_of t ≡ num 0 → ⊥) → AreCanonical M (polynomials us) (variable_of c x.0) → IsBuilt M (variable_of c x.0) (polynomials us) (polynomial_of (Ext c x vs))
-together M c x us ts vs t e f ne nz d =
-    let l : 1 < length us = subst (λ (ws : List Tree). 1 < length ws) (sym e) (omega (arith, length-append ts (t ∷ []), some_length ts ne)) in
-    let s : Tidy (polynomials us) = subst (λ (ws : List Tree). Tidy (polynomials ws)) (sym e) (tidy ts t nz) in
-    build_from M c x (polynomials us) vs us (f ∙ sym e) l (trim_first (polynomials us)) s d
+pub together : (M : ℕ) (c : Bool) (x : Label) (us vs : List Tree) → us ≡ vs → (1 < length us) × Tidy (polynomials us) → AreCanonical M (polynomials vs) (variable_of c x.0) → IsBuilt M (variable_of c x.0) (polynomials vs) (polynomial_of (Ext c x vs))
+together M c x us vs e t d =
+    let t' : (1 < length vs) × Tidy (polynomials vs) = subst (λ (ws : List Tree). (1 < length ws) × Tidy (polynomials ws)) e t in
+    build_from M c x (polynomials vs) vs vs refl t'.0 (trim_first (polynomials vs)) t'.1 d
 
 -- ---- one place
 
@@ -152,8 +146,8 @@ number_place (u ∷ vs) (suc k) v m lt e = number_place vs k v m (omega arith) e
 pub number_whole : (M k v x : ℕ) (vs : List ℕ) → k < length vs → v ≡ get_or vs k v → AreCanonical M (numbers vs) x → Under (num v) x × IsCanonical M (num v)
 number_whole M k v x vs lt e c = (tt, number_under vs k v M x lt e c)
 
-pub numbers_added : (M c k v : ℕ) (vs : List ℕ) (old mid new : Polynomials) → k < length vs → v ≡ get_or vs k v → AreAdded M c k (numbers vs) old mid → IsPut M k c (polynomial_of (Num v)) mid new → AreAdded M c (k + 1) (numbers vs) old new
-numbers_added M c k v vs old mid new lt e a p = added_step M c k (num v) (numbers vs) old mid new (λ m. number_place vs k v m lt e) (λ x d. number_whole M k v x vs lt e d) a (subst (λ q. IsPut M k c q mid new) (polynomial_of_num v) p)
+pub numbers_added : (M c k v : ℕ) (vs : List ℕ) (old mid new : Polynomials) → k < length vs → v ≡ get_or vs k v → AreAdded M c k (numbers vs) old mid → IsPut M k c (num v) mid new → AreAdded M c (k + 1) (numbers vs) old new
+numbers_added M c k v vs old mid new lt e a p = added_step M c k (num v) (numbers vs) old mid new (λ m. number_place vs k v m lt e) (λ x d. number_whole M k v x vs lt e d) a p
 
 pub first_none : (ts : List Tree) (vs : Polynomials) → ts ≡ [] → AreFirst 0 (polynomials ts) vs
 first_none ts vs e = rw e (record { canon = λ M x c. tt; below = λ k m lt. absurd (omega arith); rest = λ k m le. refl })
@@ -191,3 +185,13 @@ scaled_onto M c u r t e s = rw e (record {
   under = λ x uo ut. s.under x ut;
   at = λ m top is. s.at m top is ∙ ap (λ z. z % M) (let z = zero_coeff m in let h : c * coefficient t m ≡ coefficient (num 0) m + c * coefficient t m = omega arith in h);
 })
+
+any_tree : (ts : List Tree) (k : ℕ) (d e : Tree) → k < length ts → get_or ts k d ≡ get_or ts k e
+any_tree [] k d e lt = absurd (omega arith)
+any_tree (u ∷ ts) zero d e lt = refl
+any_tree (u ∷ ts) (suc k) d e lt = any_tree ts k d e (omega arith)
+
+pub number_put_at : (M k c u v s r : ℕ) (ts vs us : List Tree) (d : Tree) → 0 < M → k < length ts → vs ≡ ts → get_or vs k d ≡ Num u → s ≡ (c * v) % M → r ≡ (u + s) % M → us ≡ set ts k (Num r) → IsPut M k c (num v) (polynomials ts) (polynomials us)
+number_put_at M k c u v s r ts vs us d some lt e is es er eu =
+    let lv : k < length vs = subst (λ (ws : List Tree). k < length ws) (sym e) lt in
+    put_at M k c ts vs us (Num u) (Num r) (num v) lt e (sym (any_tree vs k (Num u) d lv ∙ is)) eu (num_added M c u v s r (polynomial_of (Num u)) (num v) some (polynomial_of_num u) refl es er)

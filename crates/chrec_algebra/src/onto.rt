@@ -1,33 +1,43 @@
-ghost use Rattle.std.specs.Prelude.{◌≡◌, ℕ, ◌<◌, ◌≤◌, ◌^◌, List, IfOk, IfSome, length};
+ghost use Rattle.std.specs.Prelude.{◌≡◌, ℕ, true, false, ◌⊎◌, ◌<◌, ◌≤◌, ◌^◌, List, IfOk, IfSome, length};
 ghost use Rattle.chrec_algebra.specs.Align.{IsSide};
 ghost use Rattle.chrec_algebra.specs.Product.{IsAdded, IsPut};
 ghost use Rattle.chrec_algebra.specs.Onto.{AreAdded, AreFirst, IsAddedIn};
 ghost use Rattle.chrec_algebra.specs.Numbers.{numbers};
 ghost use Rattle.scev_tree.specs.Polynomial.{Polynomial, Power, num, place, ext, IsCanonical, AreCanonical, IsBuilt, variable_of};
-ghost use Rattle.scev_tree.specs.Tree.{polynomial_of, polynomials};
+ghost use Rattle.scev_tree.specs.Tree.{polynomial_of, polynomials, EndsZero, Tidy};
 
 use crate::sum::add_multiple;
-use arith_word::{Label, Width};
+use arith_word::{Label, Width, add, mul};
 use scev_tree::{Tree, build, is_zero, rank, scale_tree};
 use sqlite_items::Items;
 use std::alloc::{AllocError, Global};
 use std::slice;
 
-// The canonical tree of the polynomial in this variable with these places.
-fn rebuild(counter: bool, var: Label, mut ops: Items<Tree>) -> Result<Tree, AllocError>
-    ensures { IfOk result (λ r. (M : ℕ) → 0 < M → AreCanonical M (polynomials ops) (variable_of counter var.0) → IsBuilt M (variable_of counter var.0) (polynomials ops) (polynomial_of r)) }
+// Whether there are at least two places, the last of which isn't 0.
+fn are_tidy(ts: &[Tree]) -> bool
+    ensures tidy { result ≡ true → (1 < length ts.now) × Tidy (polynomials ts.now) }
+    ensures not { result ≡ false → (length ts.now ≤ 1) ⊎ EndsZero (polynomials ts.now) }
 {
+    match ts {
+        [_, .., last] => !is_zero(last),
+        _ => false,
+    }
+}
+
+// The canonical tree of the polynomial in this variable with these places.
+fn rebuild(counter: bool, var: Label, mut ops: Items<Tree>) -> Tree
+    ensures { (M : ℕ) → 0 < M → AreCanonical M (polynomials ops) (variable_of counter var.0) → IsBuilt M (variable_of counter var.0) (polynomials ops) (polynomial_of result) }
+{
+    if are_tidy(ops.as_slice()) {
+        return Tree::Ext { counter, var, ops };
+    }
     match ops.pop() {
-        None => Ok(Tree::Num(0)),
+        None => Tree::Num(0),
         Some(last) => {
-            if is_zero(&last) {
-                return Ok(rebuild(counter, var, ops)?);
-            }
             if ops.is_empty() {
-                return Ok(last);
+                return last;
             }
-            ops.push(last)?;
-            Ok(Tree::Ext { counter, var, ops })
+            rebuild(counter, var, ops)
         }
     }
 }
@@ -111,7 +121,7 @@ fn add_in_places(
     ensures { IfOk result (λ r. (t : Polynomial) → IsCanonical (2 ^ w) t → IsSide (variable_of counter var.0) (polynomials ts.now) t → IsAdded (2 ^ w) c (polynomial_of r) (ext (variable_of counter var.0) (polynomials ops)) t) }
 {
     add_to_places(alloc, w, &mut ops, c, ts)?;
-    Ok(rebuild(counter, var, ops)?)
+    Ok(rebuild(counter, var, ops))
 }
 
 #[tactic(auto, using(crate::proofs::Sides::polynomial_of_num))]
@@ -155,6 +165,33 @@ pub fn settle(alloc: Global, w: Width, old: Tree, c: u64, t: Tree) -> Result<Tre
     Ok(add_onto(alloc, w, old, c, &t)?)
 }
 
+// Adds c * v to the place k, which is one of the places or the next.
+#[tactic(auto, using(crate::proofs::Sides::polynomial_of_num))]
+fn add_number_to_place(
+    alloc: Global,
+    w: Width,
+    ops: &mut Items<Tree>,
+    k: usize,
+    c: u64,
+    v: u64,
+) -> Result<(), AllocError>
+    requires within { k ≤ length ops.old }
+    requires places { (x : ℕ) × AreCanonical (2 ^ w) (polynomials ops.old) x }
+    requires number { v < 2 ^ w }
+    ensures put { IfOk result (λ _. IsPut (2 ^ w) k c (num v) (polynomials ops.old) (polynomials ops.new)) }
+    ensures count { IfOk result (λ _. k < length ops.new) }
+{
+    if k < ops.len() {
+        if let Tree::Num(u) = ops.as_slice()[k] {
+            let sum = add(w, u, mul(w, c, v));
+            ops.set(k, Tree::Num(sum));
+            return Ok(());
+        }
+    }
+    add_to_place(alloc, w, ops, k, c, &Tree::Num(v))?;
+    Ok(())
+}
+
 // Adds c times the first `count` of the numbers to the places.
 fn add_numbers(
     alloc: Global,
@@ -169,7 +206,7 @@ fn add_numbers(
     ensures { IfOk result (λ _. AreAdded (2 ^ w) c count (numbers vs.now) (polynomials ops.old) (polynomials ops.new)) }
 {
     for k in 0..count {
-        add_to_place(alloc, w, ops, k, c, &Tree::Num(vs[k]))?;
+        add_number_to_place(alloc, w, ops, k, c, vs[k])?;
     }
     Ok(())
 }
@@ -234,7 +271,7 @@ pub fn add_chain(
         } => {
             if rank(other, to) == rank(counter, var) {
                 add_numbers(alloc, w, &mut ops, c, vs, count)?;
-                return Ok(rebuild(counter, var, ops)?);
+                return Ok(rebuild(counter, var, ops));
             }
             let old = Tree::Ext {
                 counter: other,

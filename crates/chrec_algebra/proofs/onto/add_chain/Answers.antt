@@ -23,4 +23,4 @@ returns-then-rank c =
     let is = ap polynomial_of c.in-Ext.is ∙ (polynomial_of_ext c.in-Ext.other c.in-Ext.to c.in-Ext.ops ∙ ap (λ y. ext y (polynomials c.in-Ext.ops)) same) in
     let canon = places_canon (2 ^ c.args.w) x (polynomials c.in-Ext.ops) (subst (IsCanonical (2 ^ c.args.w)) is c.requires.old) in
     let added = c.in_ok-add_numbers-in-Ext.ensures in
-    subst (λ p. IsAddedIn (2 ^ c.args.w) c.args.c x (polynomial_of c.in_ok-rebuild-in-Ext.field-0) p (numbers c.args.vs.now)) (sym is) (added_numbers (2 ^ c.args.w) c.args.c c.args.count x _ _ _ _ (pow_pos c.args.w) c.requires.rest canon added (c.in_ok-rebuild-in-Ext.ensures (2 ^ c.args.w) (pow_pos c.args.w) (added.canon x canon c.requires.numbers)))
+    subst (λ p. IsAddedIn (2 ^ c.args.w) c.args.c x (polynomial_of c.rebuild.result) p (numbers c.args.vs.now)) (sym is) (added_numbers (2 ^ c.args.w) c.args.c c.args.count x _ _ _ _ (pow_pos c.args.w) c.requires.rest canon added (c.rebuild.ensures (2 ^ c.args.w) (pow_pos c.args.w) (added.canon x canon c.requires.numbers)))
