@@ -3,10 +3,10 @@ use Rattle.std.proofs.Common.{◌≡◌, ℕ, zero, suc, ◌+◌, ◌*◌, ◌%�
 use Rattle.std.proofs.lemmas.Bool.{cases_lt, cases_eq}
 use Rattle.std.proofs.Math.Nat.{mod-eq_of_lt}
 use Rattle.scev_binom.specs.Binomial.{product_coefficient}
-use Rattle.scev_tree.specs.Polynomial.{Polynomial, num, Power, power, with_power, coefficient, IsMonomial, IsCanonical, IsScaled}
+use Rattle.scev_tree.specs.Polynomial.{Polynomial, num, Power, power, with_power, coefficient, IsMonomial, IsCanonical}
 use Rattle.scev_tree.proofs.Places.{fits}
 use Rattle.scev_tree.proofs.Ends.{zero_coeff}
-use Rattle.chrec_algebra.specs.Product.{times, sum_to, product_at, IsProduct, IsAdded}
+use Rattle.chrec_algebra.specs.Product.{times, sum_to, product_at, IsAdded}
 use Rattle.chrec_algebra.proofs.Products.{sum_same, sum_zero, times_counter, times_symbol, times_outside, none_left, none_right}
 use Rattle.chrec_algebra.proofs.Values.{sum_only}
 
@@ -75,12 +75,6 @@ number_right v (q ∷ m) top f is =
     sum_same (suc e) F G (λ i li. inner i)
     ∙ (sum_only (suc e) e G (omega arith) (λ i ne. zero_times (times q.var i 0 e) _ (right_off q.var i e ne))
     ∙ one_times (times q.var e 0 e) _ _ (times_right q.var e) (number_right v m q.var (λ n. f (with_power q.var e n)) is.2 ∙ ap (λ n. v * f n) (whole q.var e m is.1)))
-
-pub scaled_left : (M u : ℕ) (r a b : Polynomial) → a ≡ num u → IsScaled M u r b → IsProduct M r a b
-scaled_left M u r a b e s = rw e (record { canon = s.canon; under = λ x ua ub. s.under x ub; at = λ m top is. s.at m top is ∙ ap (λ n. n % M) (sym (number_left u m top (coefficient b) is)) })
-
-pub scaled_right : (M v : ℕ) (r a b : Polynomial) → b ≡ num v → IsScaled M v r a → IsProduct M r a b
-scaled_right M v r a b e s = rw e (record { canon = s.canon; under = λ x ua ub. s.under x ua; at = λ m top is. s.at m top is ∙ ap (λ n. n % M) (sym (number_right v m top (coefficient a) is)) })
 
 -- ---- what is moved into a place that was 0
 

@@ -94,9 +94,6 @@ times_at c v (q ∷ m) = omega arith
 
 -- ---- the numbers of places
 
-pub numbers_first : (vs : List ℕ) (ts : Polynomials) → ((M x : ℕ) → 0 < M → AreCanonical M (numbers vs) x) → ((k : ℕ) (m : List Power) → place (numbers vs) k m ≡ 0) → IsNumbersOf 0 (numbers vs) ts
-numbers_first vs ts c z = record { canon = λ M x some d. c M x some; first = λ k m lt. absurd (omega arith); rest = λ k m le. z k m }
-
 number_is : (p : Polynomial) (v : ℕ) → IsNumber p → v ≡ coefficient p [] → p ≡ num v
 number_is (num u) v is e = ap num (sym e)
 number_is (ext x ps) v is e = absurd is

@@ -4,15 +4,14 @@ use Rattle.std.proofs.Math.ListN.{set}
 use Rattle.std.proofs.lemmas.Bool.{cases_lt, cases_eq}
 use Rattle.std.proofs.Math.Nat.{mod-eq_of_lt, mod-mod}
 use Rattle.scev_tree.specs.declared.tree.Tree.{Tree, Num}
-use Rattle.scev_tree.specs.Polynomial.{Polynomial, Polynomials, num, ext, Power, coefficient, place, IsMonomial, Under, IsCanonical, AreCanonical, IsScaled, variable_of}
+use Rattle.scev_tree.specs.Polynomial.{Polynomial, num, Power, coefficient, place, Under, IsCanonical, AreCanonical, IsScaled, variable_of}
 use Rattle.chrec_algebra.specs.Sum.{IsSum, IsTruncated}
-use Rattle.chrec_algebra.specs.Product.{IsAdded, IsPut, IsProduct, IsProductIn, AreZeros, Narrow, NarrowAll, product_at}
+use Rattle.chrec_algebra.specs.Product.{IsAdded, IsPut, AreZeros, Narrow, NarrowAll}
 use Rattle.scev_tree.specs.Tree.{polynomials, polynomial_of}
-use Rattle.chrec_algebra.specs.Align.{AreSides}
 use Rattle.scev_tree.proofs.Rows.{polynomial_of_num}
 use Rattle.scev_tree.proofs.Ends.{snoc_below, snoc_last, canon_snoc, past_list, zero_coeff}
 use Rattle.scev_tree.proofs.Places.{place_of}
-use Rattle.chrec_algebra.proofs.Products.{add_same, same_product, product_above}
+use Rattle.chrec_algebra.proofs.Products.{add_same}
 
 -- ---- multiples
 
@@ -64,21 +63,6 @@ pub odd_key : (l : ℕ) → variable_of false l % 2 ≡ 0 → ⊥
 odd_key l h = omega arith
 
 -- ---- the whole product
-
-pub product_of_sides : (M x : ℕ) (r a b : Polynomial) (ps qs : Polynomials) → AreSides x ps qs a b → IsCanonical M a → IsCanonical M b → IsProductIn M x r ps qs → IsProduct M r a b
-product_of_sides M x r a b ps qs s ca cb i = record {
-  canon = i.canon;
-  under = λ y ua ub. i.under y (s.under y ua ub);
-  at = λ m top is. i.at m top is ∙ same_product M m top (coefficient (ext x ps)) (coefficient a) (coefficient (ext x qs)) (coefficient b) is (λ n w. ap (λ z. z % M) (s.left.at M ca n top w)) (λ n w. ap (λ z. z % M) (s.right.at M cb n top w));
-}
-
-num_product_at : (M u v : ℕ) (m : List Power) (top : ℕ) → 0 < M → IsMonomial m top → coefficient (num ((u * v) % M)) m ≡ product_at (coefficient (num u)) (coefficient (num v)) m % M
-unfolding product_at
-num_product_at M u v [] top some is = refl
-num_product_at M u v (q ∷ m) top some is = sym (ap (λ z. z % M) (product_above q m (coefficient (num u)) (coefficient (num v)) is.1 (λ i n. refl) (λ i n. refl)) ∙ mod-eq_of_lt some)
-
-pub num_product : (M u v r : ℕ) (a b : Polynomial) → 0 < M → a ≡ num u → b ≡ num v → r ≡ (u * v) % M → IsProduct M (polynomial_of (Num r)) a b
-num_product M u v r a b some e f g = rw (polynomial_of_num, e, f, g) (record { canon = omega arith; under = λ x p q. tt; at = λ m top is. num_product_at M u v m top some is })
 
 pub narrow_of : (ts : List Tree) (i : ℕ) (t : Tree) → t ≡ get_or ts i t → NarrowAll (polynomials ts) → i < length ts → Narrow (polynomial_of t)
 narrow_of [] i t e n h = absurd (omega arith)

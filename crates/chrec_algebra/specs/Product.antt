@@ -35,12 +35,6 @@ pub record IsPut (M k c : ℕ) (t : Polynomial) (old new : Polynomials) : Type 0
   pub here : (m : List Power) (top : ℕ) → IsMonomial m top → place new k m ≡ (place old k m + c * coefficient t m) % M
   pub other : (j : ℕ) (m : List Power) → (j ≡ k → ⊥) → place new j m ≡ place old j m
 
--- r is the product of the polynomials in x with the places ps and qs
-pub record IsProductIn (M x : ℕ) (r : Polynomial) (ps qs : Polynomials) : Type 0 where
-  pub canon : IsCanonical M r
-  pub under : (y : ℕ) → x < y → Under r y
-  pub at : (m : List Power) (top : ℕ) → IsMonomial m top → coefficient r m ≡ product_at (coefficient (ext x ps)) (coefficient (ext x qs)) m % M
-
 abbrev mutual
   -- at most 9 places at each level
   pub Narrow : Polynomial → Type 0

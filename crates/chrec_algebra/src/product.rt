@@ -1,5 +1,5 @@
 ghost use Rattle.std.specs.Prelude.{◌≡◌, ℕ, true, false, ◌+◌, ◌*◌, ◌%◌, ◌<◌, ◌≤◌, ◌^◌, ◌⊎◌, IfOk, length, vec_len};
-ghost use Rattle.chrec_algebra.specs.Product.{IsAdded, IsProduct, IsProductIn, IsProductAdded, IsProductAddedIn, IsProductPut, IsRow, AreRows, Narrow, NarrowAll};
+ghost use Rattle.chrec_algebra.specs.Product.{IsAdded, IsProduct, IsProductAdded, IsProductAddedIn, IsProductPut, IsRow, AreRows, Narrow, NarrowAll};
 ghost use Rattle.scev_tree.specs.Polynomial.{IsCanonical, AreCanonical, Under, variable_of};
 ghost use Rattle.scev_tree.specs.Tree.{polynomial_of, polynomials};
 
