@@ -66,7 +66,7 @@ fn places_in<'a>(counter: bool, var: Label, t: &'a Tree) -> Option<&'a [Tree]>
 }
 
 // Adds c * t to the place k, which is one of the places or the next.
-fn add_to_place(
+fn add_tree_to_place(
     alloc: Global,
     w: Width,
     ops: &mut Items<Tree>,
@@ -88,6 +88,55 @@ fn add_to_place(
         ops.push(more)?;
     }
     Ok(())
+}
+
+// The same for a number, in the memory of a number.
+#[tactic(auto, using(crate::proofs::Sides::polynomial_of_num))]
+fn add_number_to_place(
+    alloc: Global,
+    w: Width,
+    ops: &mut Items<Tree>,
+    k: usize,
+    c: u64,
+    v: u64,
+) -> Result<(), AllocError>
+    requires within { k ≤ length ops.old }
+    requires places { (x : ℕ) × AreCanonical (2 ^ w) (polynomials ops.old) x }
+    requires number { v < 2 ^ w }
+    ensures put { IfOk result (λ _. IsPut (2 ^ w) k c (num v) (polynomials ops.old) (polynomials ops.new)) }
+    ensures count { IfOk result (λ _. k < length ops.new) }
+{
+    if k < ops.len() {
+        if let Tree::Num(u) = ops.as_slice()[k] {
+            let sum = add(w, u, mul(w, c, v));
+            ops.set(k, Tree::Num(sum));
+            return Ok(());
+        }
+    }
+    add_tree_to_place(alloc, w, ops, k, c, &Tree::Num(v))?;
+    Ok(())
+}
+
+// The same, in place where both are numbers.
+#[tactic(auto, using(crate::proofs::Sides::polynomial_of_num))]
+fn add_to_place(
+    alloc: Global,
+    w: Width,
+    ops: &mut Items<Tree>,
+    k: usize,
+    c: u64,
+    t: &Tree,
+) -> Result<(), AllocError>
+    requires within { k ≤ length ops.old }
+    requires places { (x : ℕ) × AreCanonical (2 ^ w) (polynomials ops.old) x }
+    requires tree { IsCanonical (2 ^ w) (polynomial_of t.now) }
+    ensures put { IfOk result (λ _. IsPut (2 ^ w) k c (polynomial_of t.now) (polynomials ops.old) (polynomials ops.new)) }
+    ensures count { IfOk result (λ _. k < length ops.new) }
+{
+    match t {
+        Tree::Num(v) => Ok(add_number_to_place(alloc, w, ops, k, c, *v)?),
+        Tree::Ext { .. } => Ok(add_tree_to_place(alloc, w, ops, k, c, t)?),
+    }
 }
 
 // Adds c times the places `ts` to the places.
@@ -163,33 +212,6 @@ pub fn settle(alloc: Global, w: Width, old: Tree, c: u64, t: Tree) -> Result<Tre
         return Ok(t);
     }
     Ok(add_onto(alloc, w, old, c, &t)?)
-}
-
-// Adds c * v to the place k, which is one of the places or the next.
-#[tactic(auto, using(crate::proofs::Sides::polynomial_of_num))]
-fn add_number_to_place(
-    alloc: Global,
-    w: Width,
-    ops: &mut Items<Tree>,
-    k: usize,
-    c: u64,
-    v: u64,
-) -> Result<(), AllocError>
-    requires within { k ≤ length ops.old }
-    requires places { (x : ℕ) × AreCanonical (2 ^ w) (polynomials ops.old) x }
-    requires number { v < 2 ^ w }
-    ensures put { IfOk result (λ _. IsPut (2 ^ w) k c (num v) (polynomials ops.old) (polynomials ops.new)) }
-    ensures count { IfOk result (λ _. k < length ops.new) }
-{
-    if k < ops.len() {
-        if let Tree::Num(u) = ops.as_slice()[k] {
-            let sum = add(w, u, mul(w, c, v));
-            ops.set(k, Tree::Num(sum));
-            return Ok(());
-        }
-    }
-    add_to_place(alloc, w, ops, k, c, &Tree::Num(v))?;
-    Ok(())
 }
 
 // Adds c times the first `count` of the numbers to the places.

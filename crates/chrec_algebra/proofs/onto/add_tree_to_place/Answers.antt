@@ -1,7 +1,7 @@
 use Rattle.std.proofs.Common.{arith}
 use Rattle.std.proofs.lemmas.Nat.{pow_pos}
 use Rattle.chrec_algebra.proofs.InPlace.{push_is, put_at, canon_there}
-use Rattle.chrec_algebra.proofs.onto.add_to_place.Goals as goal
+use Rattle.chrec_algebra.proofs.onto.add_tree_to_place.Goals as goal
 
 pub add_multiple-requires-clause-old : goal.add_multiple-requires-clause-old
 add_multiple-requires-clause-old c = canon_there _ c.requires.places.0 c.args.ops.now c.as_slice.result.now c.args.k c.index-as_slice-k.result c.as_slice.ensures c.index-as_slice-k.is c.requires.places.1 (omega (arith, c.len.ensures, c.if-k-len.true))
