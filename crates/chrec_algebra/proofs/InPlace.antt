@@ -7,7 +7,7 @@ use Rattle.scev_tree.specs.declared.tree.Tree.{Tree, Num, Ext}
 use Rattle.scev_tree.specs.Polynomial.{Polynomial, Polynomials, num, ext, Power, coefficient, place, IsMonomial, Under, IsCanonical, AreCanonical, IsScaled, IsBuilt, variable_of}
 use Rattle.scev_tree.specs.Tree.{polynomials, polynomial_of, EndsZero, Tidy}
 use Rattle.scev_tree.proofs.Ends.{snoc_below, snoc_last, canon_snoc, past_list, zero_coeff, trim_first, trim_last, build_from, build_one}
-use Rattle.scev_tree.proofs.Places.{fits_place, canon_of}
+use Rattle.scev_tree.proofs.Places.{fits_place, canon_of, under_of}
 use Rattle.chrec_algebra.specs.Align.{IsSide}
 use Rattle.chrec_algebra.specs.Product.{IsAdded, IsPut}
 use Rattle.chrec_algebra.specs.Onto.{AreAdded, AreFirst, IsAddedIn}
@@ -82,6 +82,9 @@ put_after M k c ts us vs o p z r t lt eo ep eu ev a = put_is M k c ts vs o r t l
 
 pub canon_taken : (M x : ℕ) (ts : List Tree) (k : ℕ) (o p : Tree) → o ≡ get_or ts k o → p ≡ o → AreCanonical M (polynomials ts) x → k < length ts → IsCanonical M (polynomial_of p)
 canon_taken M x ts k o p eo ep c lt = subst (λ (u : Tree). IsCanonical M (polynomial_of u)) (sym ep) (canon_of M x ts k o eo c lt)
+
+pub under_taken : (M x : ℕ) (ts : List Tree) (k : ℕ) (o p : Tree) → o ≡ get_or ts k o → p ≡ o → AreCanonical M (polynomials ts) x → k < length ts → Under (polynomial_of p) x
+under_taken M x ts k o p eo ep c lt = subst (λ (u : Tree). Under (polynomial_of u) x) (sym ep) (under_of M x ts k o eo c lt)
 
 -- ---- all places
 

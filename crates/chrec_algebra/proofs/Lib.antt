@@ -18,3 +18,4 @@ pub mod Rising
 pub mod Narrowing
 pub mod Opening
 pub mod RowsOfProducts
+pub mod Heights

@@ -1,5 +1,5 @@
 -- the places of a product before anything is added
-use Rattle.std.proofs.Common.{◌≡◌, ℕ, zero, suc, ◌+◌, ◌≤◌, inl, inr, List, [], ◌∷◌, ◌++◌, refl, ap, ◌∙◌, sym, subst, arith, length, length-append}
+use Rattle.std.proofs.Common.{◌≡◌, ℕ, zero, suc, ◌+◌, ◌*◌, ◌%◌, ◌<◌, ◌≤◌, inl, inr, List, [], ◌∷◌, ◌++◌, refl, ap, ◌∙◌, sym, subst, arith, length, length-append}
 use Rattle.std.proofs.lemmas.Bool.{eq-eqb, ne_eqb, cases_order, cases_lt}
 use Rattle.std.proofs.Math.ListN.{set}
 use Rattle.scev_tree.specs.declared.tree.Tree.{Tree}
@@ -8,6 +8,7 @@ use Rattle.scev_tree.specs.Tree.{polynomials, polynomial_of}
 use Rattle.scev_tree.proofs.Ends.{snoc_below, snoc_last, past_list, zero_coeff}
 use Rattle.scev_tree.proofs.Places.{places_canon}
 use Rattle.chrec_algebra.specs.Product.{AreZeros}
+use Rattle.chrec_algebra.specs.Onto.{AreAdded}
 use Rattle.chrec_algebra.specs.Places.{IsOverlaid, IsOpened}
 use Rattle.chrec_algebra.proofs.Parts.{set_here, set_other, set_canon}
 use Rattle.chrec_algebra.proofs.InPlace.{place_coeff}
@@ -68,3 +69,14 @@ pub set_length : (ts : List Tree) (k : ℕ) (t : Tree) → length (set ts k t) �
 set_length [] k t = refl
 set_length (u ∷ ts) zero t = refl
 set_length (u ∷ ts) (suc k) t = ap suc (set_length ts k t)
+
+-- what is added to places that were moved is added to the places
+pub added_over : (M c n : ℕ) (ops : List Tree) (ts zs start new : Polynomials) → 0 < M → AreZeros zs → IsOverlaid (length ops) (polynomials ops) zs start → AreAdded M c n ts start new → AreAdded M c n ts (polynomials ops) new
+added_over M c n ops ts zs start new some z o a = record {
+  canon = λ x co ct. a.canon x (o.canon M x co (z.canon M x some)) ct;
+  below = λ k m top lt is. a.below k m top lt is ∙ ap (λ v. (v + c * place ts k m) % M) (same k m);
+  rest = λ k m le. a.rest k m le ∙ same k m;
+}
+  where
+    same : (k : ℕ) (m : List Power) → place start k m ≡ place (polynomials ops) k m
+    same k m = elim (cases_lt k (length ops)) [ inl lt ↦ o.below k m lt | inr ge ↦ o.rest k m ge ∙ (z.at k m ∙ sym (past_list ops k m ge)) ]

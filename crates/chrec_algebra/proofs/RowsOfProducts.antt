@@ -1,5 +1,5 @@
 -- products that are added to the places of an old tree
-use Rattle.std.proofs.Common.{◌≡◌, ℕ, suc, ◌+◌, ◌-◌, ◌*◌, ◌%◌, ◌<◌, ◌≤◌, ◌⊎◌, inl, inr, List, refl, ap, ◌∙◌, sym, subst, arith, length, get_or, Bool, true, false, max}
+use Rattle.std.proofs.Common.{◌≡◌, ℕ, suc, ◌+◌, ◌-◌, ◌*◌, ◌%◌, ◌<◌, ◌≤◌, ◌⊎◌, inl, inr, List, refl, ap, ◌∙◌, sym, subst, arith, length, get_or, Bool, true, false}
 use Rattle.std.proofs.lemmas.Bool.{eq-eqb, ne_eqb, cases_lt, cases_eq}
 use Rattle.std.proofs.Math.Nat.{mod-eq_of_lt, mod-mod}
 use Rattle.std.proofs.Math.ListN.{set}
@@ -15,7 +15,7 @@ use Rattle.chrec_algebra.specs.Onto.{IsAddedIn}
 use Rattle.chrec_algebra.specs.Places.{AreRisen, IsOpened}
 use Rattle.chrec_algebra.specs.Product.{times, sum_to, product_at, row_factor, IsAdded, IsProduct, AreProducts, IsProductAdded, IsProductAddedIn, IsProductPut, IsRow, AreRows}
 use Rattle.chrec_algebra.proofs.Products.{add_same, mul_same, sum_zero, same_product, times_outside, times_symbol, times_other, plus_same, ext_added, ext_at}
-use Rattle.chrec_algebra.proofs.Values.{sum_only, height, under_height}
+use Rattle.chrec_algebra.proofs.Values.{sum_only}
 use Rattle.chrec_algebra.proofs.Factors.{number_left, number_right}
 use Rattle.chrec_algebra.proofs.Parts.{set_here, set_other, set_canon, under_here, even_key, odd_of}
 use Rattle.chrec_algebra.proofs.InPlace.{set_twice}
@@ -171,16 +171,6 @@ added_of_sides M c x r old a b ps qs s ca cb i = record {
   under = λ y uo ua ub. i.under y (s.under y ua ub) uo;
   at = λ m top is. plus_same M (coefficient r m) (coefficient old m) c _ _ (i.at m top is) (same_product M m top (coefficient (ext x ps)) (coefficient a) (coefficient (ext x qs)) (coefficient b) is (λ n w. ap (λ z. z % M) (s.left.at M ca n top w)) (λ n w. ap (λ z. z % M) (s.right.at M cb n top w)));
 }
-
--- ---- the measure: the greater of two variables falls
-
-pub below_height : (p : Polynomial) (x : ℕ) → Under p x → height p ≤ x
-unfolding height
-below_height (num v) x u = omega arith
-below_height (ext y ps) x u = omega arith
-
-pub sides_below : (x : ℕ) (ps qs : Polynomials) (a b : Polynomial) → AreSides x ps qs a b → x < max (height a) (height b)
-sides_below x ps qs a b s = s.under (max (height a) (height b)) (under_height a _ (omega arith)) (under_height b _ (omega arith))
 
 -- ---- the factor of a place
 

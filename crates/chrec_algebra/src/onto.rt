@@ -6,12 +6,14 @@ ghost use Rattle.chrec_algebra.specs.Numbers.{numbers};
 ghost use Rattle.scev_tree.specs.Polynomial.{Polynomial, Power, num, place, ext, IsCanonical, AreCanonical, IsBuilt, variable_of};
 ghost use Rattle.scev_tree.specs.Tree.{polynomial_of, polynomials, EndsZero, Tidy};
 
+use crate::chains::are_numbers;
+use crate::places::{overlay, zeros};
 use crate::sum::add_multiple;
 use arith_word::{Label, Width, add, mul};
 use scev_tree::{Tree, build, is_zero, rank, scale_tree};
 use sqlite_items::Items;
 use std::alloc::{AllocError, Global};
-use std::slice;
+use std::{mem, slice};
 
 // Whether there are at least two places, the last of which isn't 0.
 fn are_tidy(ts: &[Tree]) -> bool
@@ -156,6 +158,33 @@ fn add_to_places(
     Ok(())
 }
 
+// Adds c times the places `ts` to the places, in the memory of each.
+#[cycle(adding_onto)]
+fn add_to_each(
+    alloc: Global,
+    w: Width,
+    counter: bool,
+    var: Label,
+    out: &mut Vec<Tree>,
+    c: u64,
+    ts: &[Tree],
+) -> Result<(), AllocError>
+    requires within { length ts.now ≤ length out.old.items }
+    requires places { AreCanonical (2 ^ w) (polynomials out.old.items) (variable_of counter var.0) }
+    requires more { AreCanonical (2 ^ w) (polynomials ts.now) (variable_of counter var.0) }
+    ensures { IfOk result (λ _. AreAdded (2 ^ w) c (length ts.now) (polynomials ts.now) (polynomials out.old.items) (polynomials out.new.items)) }
+{
+    let _ = var;
+    let _ = counter;
+    for (k, t) in ts.iter().enumerate() {
+        let old = mem::replace(&mut out[k], Tree::Num(0));
+        let sum = add_onto(alloc, w, old, c, t)?;
+        out[k] = sum;
+    }
+    Ok(())
+}
+
+#[cycle(adding_onto)]
 fn add_in_places(
     alloc: Global,
     w: Width,
@@ -169,8 +198,14 @@ fn add_in_places(
     requires more { AreCanonical (2 ^ w) (polynomials ts.now) (variable_of counter var.0) }
     ensures { IfOk result (λ r. (t : Polynomial) → IsCanonical (2 ^ w) t → IsSide (variable_of counter var.0) (polynomials ts.now) t → IsAdded (2 ^ w) c (polynomial_of r) (ext (variable_of counter var.0) (polynomials ops)) t) }
 {
-    add_to_places(alloc, w, &mut ops, c, ts)?;
-    Ok(rebuild(counter, var, ops))
+    if are_numbers(ops.as_slice()) && are_numbers(ts) {
+        add_to_places(alloc, w, &mut ops, c, ts)?;
+        return Ok(rebuild(counter, var, ops));
+    }
+    let empty = zeros(alloc, ops.len().max(ts.len()))?;
+    let mut out = overlay(ops, empty);
+    add_to_each(alloc, w, counter, var, &mut out, c, ts)?;
+    Ok(build(counter, var, out))
 }
 
 #[tactic(auto, using(crate::proofs::Sides::polynomial_of_num))]
@@ -187,6 +222,7 @@ fn add_to_number(alloc: Global, w: Width, u: u64, c: u64, t: &Tree) -> Result<Tr
 
 /// `old + c * t` modulo 2 to the width, in the memory of `old` where its variable isn't below that
 /// of t.
+#[cycle(adding_onto)]
 #[tactic(auto, using(crate::proofs::Sides::polynomial_of_ext, crate::proofs::Sides::polynomial_of_num))]
 pub fn add_onto(alloc: Global, w: Width, old: Tree, c: u64, t: &Tree) -> Result<Tree, AllocError>
     requires old { IsCanonical (2 ^ w) (polynomial_of old) }

@@ -19,7 +19,8 @@ pub struct Opened {
     pub rest: Tree,
 }
 
-fn zeros(alloc: Global, count: usize) -> Result<Vec<Tree>, AllocError>
+/// Zeros.
+pub fn zeros(alloc: Global, count: usize) -> Result<Vec<Tree>, AllocError>
     ensures { IfOk result (λ v. (vec_len v ≡ count) × AreZeros (polynomials v.items)) }
 {
     let mut out = Vec::with_capacity(alloc, count)?;
@@ -30,8 +31,8 @@ fn zeros(alloc: Global, count: usize) -> Result<Vec<Tree>, AllocError>
     Ok(out)
 }
 
-// Moves the trees of `ops` to the places that they have there.
-fn overlay(mut ops: Items<Tree>, mut out: Vec<Tree>) -> Vec<Tree>
+/// Moves the trees of `ops` to the places that they have there.
+pub fn overlay(mut ops: Items<Tree>, mut out: Vec<Tree>) -> Vec<Tree>
     requires { length ops ≤ length out.items }
     ensures count { vec_len result ≡ vec_len out }
     ensures places { IsOverlaid (length ops) (polynomials ops) (polynomials out.items) (polynomials result.items) }

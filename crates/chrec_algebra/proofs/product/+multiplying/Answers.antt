@@ -11,7 +11,8 @@ use Rattle.chrec_algebra.proofs.Narrowing.{narrow_risen}
 use Rattle.chrec_algebra.proofs.NumberChains.{past_products}
 use Rattle.chrec_algebra.proofs.Parts.{narrow_of}
 use Rattle.chrec_algebra.proofs.Rising.{risen_first}
-use Rattle.chrec_algebra.proofs.RowsOfProducts.{number_added_left, number_added_right, product_put, row_step, rows_first, counter_rows_step, plain_rows_step, added_in, chain_added, added_of_sides, below_height, sides_below}
+use Rattle.chrec_algebra.proofs.Heights.{below_height, sides_below}
+use Rattle.chrec_algebra.proofs.RowsOfProducts.{number_added_left, number_added_right, product_put, row_step, rows_first, counter_rows_step, plain_rows_step, added_in, chain_added, added_of_sides}
 use Rattle.chrec_algebra.proofs.product.+multiplying.Goals as goal
 
 pub add_product-returns-in-Num : goal.add_product-returns-in-Num
