@@ -1,13 +1,13 @@
 -- a product with a number, and the places 0 of a variable
-use Rattle.std.proofs.Common.{◌≡◌, ℕ, zero, suc, ◌+◌, ◌*◌, ◌%◌, ◌<◌, ◌⊎◌, inl, inr, List, [], ◌∷◌, refl, ap, ◌∙◌, sym, subst, arith}
+use Rattle.std.proofs.Common.{◌≡◌, ℕ, zero, suc, ◌+◌, ◌*◌, ◌%◌, ◌<◌, ◌⊎◌, inl, inr, List, [], ◌∷◌, refl, ap, ◌∙◌, sym, arith}
 use Rattle.std.proofs.lemmas.Bool.{cases_lt, cases_eq}
 use Rattle.std.proofs.Math.Nat.{mod-eq_of_lt}
 use Rattle.scev_binom.specs.Binomial.{product_coefficient}
-use Rattle.scev_tree.specs.Polynomial.{Polynomial, Polynomials, num, Power, power, with_power, coefficient, place, IsMonomial, Under, IsCanonical, AreCanonical, IsScaled}
-use Rattle.scev_tree.proofs.Places.{fits, fits_place}
+use Rattle.scev_tree.specs.Polynomial.{Polynomial, num, Power, power, with_power, coefficient, IsMonomial, IsCanonical}
+use Rattle.scev_tree.proofs.Places.{fits}
 use Rattle.scev_tree.proofs.Ends.{zero_coeff}
-use Rattle.chrec_algebra.specs.Product.{times, sum_to, product_at, IsProduct, IsAdded, IsPut, IsSpreadOut}
-use Rattle.chrec_algebra.proofs.Products.{sum_same, sum_zero, times_counter, times_symbol, times_other, times_outside, none_left, none_right}
+use Rattle.chrec_algebra.specs.Product.{times, sum_to, product_at, IsAdded}
+use Rattle.chrec_algebra.proofs.Products.{sum_same, sum_zero, times_counter, times_symbol, times_outside, none_left, none_right}
 use Rattle.chrec_algebra.proofs.Values.{sum_only}
 
 first_left : (j : ℕ) → product_coefficient 0 j j ≡ 1
@@ -76,12 +76,6 @@ number_right v (q ∷ m) top f is =
     ∙ (sum_only (suc e) e G (omega arith) (λ i ne. zero_times (times q.var i 0 e) _ (right_off q.var i e ne))
     ∙ one_times (times q.var e 0 e) _ _ (times_right q.var e) (number_right v m q.var (λ n. f (with_power q.var e n)) is.2 ∙ ap (λ n. v * f n) (whole q.var e m is.1)))
 
-pub scaled_left : (M u : ℕ) (r a b : Polynomial) → a ≡ num u → IsScaled M u r b → IsProduct M r a b
-scaled_left M u r a b e s = rw e (record { canon = s.canon; under = λ x ua ub. s.under x ub; at = λ m top is. s.at m top is ∙ ap (λ n. n % M) (sym (number_left u m top (coefficient b) is)) })
-
-pub scaled_right : (M v : ℕ) (r a b : Polynomial) → b ≡ num v → IsScaled M v r a → IsProduct M r a b
-scaled_right M v r a b e s = rw e (record { canon = s.canon; under = λ x ua ub. s.under x ua; at = λ m top is. s.at m top is ∙ ap (λ n. n % M) (sym (number_right v m top (coefficient a) is)) })
-
 -- ---- what is moved into a place that was 0
 
 pub moved : (M : ℕ) (o t : Polynomial) → 0 < M → o ≡ num 0 → IsCanonical M t → IsAdded M 1 t o t
@@ -90,38 +84,3 @@ moved M o t some e c = rw e (record {
   under = λ x uo ut. ut;
   at = λ m top is. (let z = zero_coeff m in let h : coefficient (num 0) m + 1 * coefficient t m ≡ coefficient t m = omega arith in sym (ap (λ n. n % M) h ∙ mod-eq_of_lt (fits M t m some c)));
 })
-
-none_added : (M a b : ℕ) → a < M → b ≡ 0 → a ≡ (a + b) % M
-none_added M a b lt e = let h : a + b ≡ a = omega arith in sym (ap (λ n. n % M) h ∙ mod-eq_of_lt lt)
-
--- one place alone takes the product of the places i and j
-pub spread_one : (M x i j : ℕ) (t : Polynomial) (old new : Polynomials) → 0 < M → AreCanonical M old x → IsCanonical M t → Under t x → times x i j (i + j) ≡ 1 → ((k : ℕ) → (k ≡ i + j → ⊥) → times x i j k ≡ 0) → IsPut M (i + j) 1 t old new → IsSpreadOut M x i j t old new
-spread_one M x i j t old new some c ct ut one off p = record {
-  canon = p.canon x c ct ut;
-  at = λ k m top is. elim (cases_eq k (i + j)) [
-    | inl eq ↦ (let P : ℕ → Type 0 = λ z. place new z m ≡ (place old z m + times x i j z * coefficient t m) % M in
-        subst P (sym eq) (p.here m top is ∙ ap (λ z. (place old (i + j) m + z * coefficient t m) % M) (sym one)))
-    | inr ne ↦ p.other k m ne ∙ none_added M (place old k m) _ (fits_place M old k m x some c) (zero_times (times x i j k) (coefficient t m) (off k ne))
-  ];
-}
-
-one_of : (x i j : ℕ) → (x % 2 ≡ 0 → ⊥) ⊎ ((i ≡ 0) ⊎ (j ≡ 0)) → times x i j (i + j) ≡ 1
-one_of x i j h = elim h [
-  | inl odd ↦ times_symbol x i j (i + j) odd refl
-  | inr z ↦ (elim z [
-    | inl a ↦ (let n : 0 + j ≡ j = omega arith in let P : ℕ → Type 0 = λ k. times x k j (k + j) ≡ 1 in subst P (sym a) (ap (λ k. times x 0 j k) n ∙ times_left x j))
-    | inr b ↦ (let n : i + 0 ≡ i = omega arith in let P : ℕ → Type 0 = λ k. times x i k (i + k) ≡ 1 in subst P (sym b) (ap (λ k. times x i 0 k) n ∙ times_right x i))
-  ])
-]
-
-off_of : (x i j : ℕ) → (x % 2 ≡ 0 → ⊥) ⊎ ((i ≡ 0) ⊎ (j ≡ 0)) → (k : ℕ) → (k ≡ i + j → ⊥) → times x i j k ≡ 0
-off_of x i j h k ne = elim h [
-  | inl odd ↦ times_other x i j k odd (λ e. ne (sym e))
-  | inr z ↦ times_outside x i j k (elim z [
-    | inl a ↦ (elim (off j k (λ e. ne (omega arith))) [ inl l ↦ inr (inl l) | inr g ↦ inr (inr (omega arith)) ])
-    | inr b ↦ (elim (off i k (λ e. ne (omega arith))) [ inl l ↦ inl l | inr g ↦ inr (inr (omega arith)) ])
-  ])
-]
-
-pub spread_edge : (M x i j : ℕ) (t : Polynomial) (old new : Polynomials) → 0 < M → AreCanonical M old x → IsCanonical M t → Under t x → (x % 2 ≡ 0 → ⊥) ⊎ ((i ≡ 0) ⊎ (j ≡ 0)) → IsPut M (i + j) 1 t old new → IsSpreadOut M x i j t old new
-spread_edge M x i j t old new some c ct ut h p = spread_one M x i j t old new some c ct ut (one_of x i j h) (off_of x i j h) p

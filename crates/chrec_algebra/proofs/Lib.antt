@@ -14,3 +14,8 @@ pub mod Factors
 pub mod NumberChains
 pub mod TableOfBinomials
 pub mod InPlace
+pub mod Rising
+pub mod Narrowing
+pub mod Opening
+pub mod RowsOfProducts
+pub mod Heights

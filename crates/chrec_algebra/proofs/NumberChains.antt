@@ -1,19 +1,23 @@
--- products of chains of numbers, place by place
-use Rattle.std.proofs.Common.{◌≡◌, ℕ, zero, suc, ◌+◌, ◌-◌, ◌*◌, ◌%◌, ◌<◌, ◌≤◌, ◌⊎◌, inl, inr, List, [], ◌∷◌, ◌++◌, refl, ap, ◌∙◌, sym, subst, arith, length, get_or, take, Bool, true, false}
-use Rattle.std.proofs.lemmas.Bool.{cases_lt}
+-- products of chains of numbers
+use Rattle.std.proofs.Common.{◌≡◌, ℕ, zero, suc, ◌+◌, ◌-◌, ◌*◌, ◌%◌, ◌<◌, ◌≤◌, inl, inr, List, [], ◌∷◌, ◌++◌, refl, ap, ◌∙◌, sym, subst, arith, length, get_or, take, Bool, true, false}
+use Rattle.std.proofs.lemmas.Bool.{cases_lt, cases_eq}
+use Rattle.std.proofs.Math.ListN.{set}
 use Rattle.std.proofs.Math.Nat.{mod-eq_of_lt, mod-mod}
 use Rattle.std.proofs.lemmas.Nat.{mod_below}
-use Rattle.scev_binom.specs.Binomial.{product_coefficient}
-use Rattle.scev_tree.specs.declared.tree.Tree.{Tree, Num}
-use Rattle.scev_tree.specs.Polynomial.{Polynomial, Polynomials, num, ext, none, more, Power, coefficient, place, IsMonomial, AreCanonical, IsBuilt, variable_of}
+use Rattle.scev_tree.specs.declared.tree.Tree.{Tree}
+use Rattle.scev_tree.specs.Polynomial.{Polynomial, Polynomials, num, ext, Power, coefficient, place, AreCanonical, variable_of}
 use Rattle.scev_tree.specs.Tree.{polynomials, polynomial_of, len}
-use Rattle.scev_tree.proofs.Rows.{polynomial_of_num, len_is}
-use Rattle.scev_tree.proofs.Ends.{snoc_below, snoc_last, canon_snoc, past_list, take_snoc}
-use Rattle.scev_tree.proofs.Places.{past_end, place_of}
-use Rattle.chrec_algebra.specs.Product.{times, sum_to, product_at, AreProducts, IsProductIn}
-use Rattle.chrec_algebra.specs.Numbers.{IsNumber, AreNumbers, AreFirst, product_row, product_place}
-use Rattle.chrec_algebra.proofs.Products.{add_same, mul_same, sum_same, sum_zero, sum_bound, times_counter, times_symbol, times_other, times_outside, product_above, ext_at}
-use Rattle.chrec_algebra.proofs.Values.{sum_times, sum_only}
+use Rattle.scev_tree.proofs.Rows.{len_is}
+use Rattle.scev_tree.proofs.Ends.{past_list, take_snoc}
+use Rattle.scev_tree.proofs.Places.{fits, fits_place, place_of, canon_of}
+use Rattle.chrec_algebra.specs.Product.{times, product_at, row_factor, IsPut, IsProductPut, IsRow, AreRows, AreProducts}
+use Rattle.chrec_algebra.specs.Numbers.{IsNumber, AreNumbers, numbers, IsNumbersOf}
+use Rattle.chrec_algebra.specs.Places.{AreRisen, row_of_sums}
+use Rattle.chrec_algebra.proofs.Products.{add_same, sum_zero, times_outside}
+use Rattle.chrec_algebra.proofs.Factors.{number_left}
+use Rattle.chrec_algebra.proofs.InPlace.{number_place}
+use Rattle.chrec_algebra.proofs.RowsOfProducts.{Gives, gives_symbol, rows_step}
+use Rattle.chrec_algebra.proofs.Parts.{odd_of}
 
 grow : (us : List Tree) (u : Tree) → AreNumbers (polynomials us) → IsNumber (polynomial_of u) → AreNumbers (polynomials (us ++ u ∷ []))
 grow [] u a n = (n, tt)
@@ -27,131 +31,152 @@ number_of [] i t e h a = absurd (omega arith)
 number_of (u ∷ ts) zero t e h a = subst (λ (v : Tree). IsNumber (polynomial_of v)) (sym e) a.0
 number_of (u ∷ ts) (suc i) t e h a = number_of ts i t e (omega arith) a.1
 
-times_zero : (a b : ℕ) → b ≡ 0 → a * b ≡ 0
-times_zero a b e = ap (λ x. a * x) e ∙ omega arith
+-- ---- one number of a list
 
-zero_times : (a b : ℕ) → a ≡ 0 → a * b ≡ 0
-zero_times a b e = ap (λ x. x * b) e ∙ omega arith
+set_here : (vs : List ℕ) (k v : ℕ) (m : List Power) → k < length vs → place (numbers (set vs k v)) k m ≡ coefficient (num v) m
+set_here [] k v m lt = absurd (omega arith)
+set_here (u ∷ vs) zero v m lt = refl
+set_here (u ∷ vs) (suc k) v m lt = set_here vs k v m (omega arith)
 
-times_parity : (x y i j k : ℕ) → y % 2 ≡ x % 2 → times y i j k ≡ times x i j k
-unfolding times
-times_parity x y i j k e = rw e refl
+set_other : (vs : List ℕ) (k v j : ℕ) (m : List Power) → (j ≡ k → ⊥) → place (numbers (set vs k v)) j m ≡ place (numbers vs) j m
+set_other [] k v j m ne = refl
+set_other (u ∷ vs) zero v zero m ne = absurd (ne refl)
+set_other (u ∷ vs) zero v (suc j) m ne = refl
+set_other (u ∷ vs) (suc k) v zero m ne = refl
+set_other (u ∷ vs) (suc k) v (suc j) m ne = set_other vs k v j m (λ e. ne (ap suc e))
 
--- ---- one row of a counter
+set_canon : (M x : ℕ) (vs : List ℕ) (k v : ℕ) → AreCanonical M (numbers vs) x → v < M → AreCanonical M (numbers (set vs k v)) x
+set_canon M x [] k v c lt = tt
+set_canon M x (u ∷ vs) zero v c lt = (tt, lt, c.2)
+set_canon M x (u ∷ vs) (suc k) v c lt = (c.0, c.1, set_canon M x vs k v c.2 lt)
 
-pub row_first : (M x i k : ℕ) (qs : Polynomials) → 0 < M → i ≤ k → 0 ≡ sum_to (k - i) (λ j. times x i j k * place qs j []) % M
-row_first M x i k qs some le = sym (ap (λ n. n % M) (sum_zero (k - i) _ (λ j lt. zero_times (times x i j k) _ (times_outside x i j k (inr (inr (omega arith)))))) ∙ mod-eq_of_lt some)
+pub numbers_past : (vs : List ℕ) (k : ℕ) (m : List Power) → length vs ≤ k → place (numbers vs) k m ≡ 0
+numbers_past [] k m le = refl
+numbers_past (u ∷ vs) zero m le = absurd (omega arith)
+numbers_past (u ∷ vs) (suc k) m le = numbers_past vs k m (omega arith)
 
-pub row_step : (M x i j k c v n s r : ℕ) (ts : List Tree) (t : Tree) → j < length ts → t ≡ get_or ts j t → x % 2 ≡ 0 → c ≡ product_coefficient i j k → v ≡ coefficient (polynomial_of t) [] → n ≡ (c * v) % M → s ≡ sum_to j (λ b. times x i b k * place (polynomials ts) b []) % M → r ≡ (s + n) % M → r ≡ sum_to (j + 1) (λ b. times x i b k * place (polynomials ts) b []) % M
-unfolding sum_to
-row_step M x i j k c v n s r ts t lt et even ec ev en es er =
-    let one : j + 1 ≡ suc j = omega arith in
-    let S = sum_to j (λ b. times x i b k * place (polynomials ts) b []) in
-    let P = times x i j k * place (polynomials ts) j [] in
-    let cv : c * v ≡ P = ap (λ z. z * v) (ec ∙ sym (times_counter x i j k even)) ∙ ap (λ z. times x i j k * z) (ev ∙ sym (place_of ts j t [] et lt)) in
-    let e : (s + n) % M ≡ (S + P) % M = add_same M s n S P (ap (λ z. z % M) es ∙ mod-mod S M) (ap (λ z. z % M) en ∙ (mod-mod (c * v) M ∙ ap (λ z. z % M) cv)) in
-    rw one (er ∙ e)
+pub numbers_length : (vs : List ℕ) (k v : ℕ) → length (set vs k v) ≡ length vs
+numbers_length [] k v = refl
+numbers_length (u ∷ vs) zero v = refl
+numbers_length (u ∷ vs) (suc k) v = ap suc (numbers_length vs k v)
 
-pub row_end : (M x i j k s : ℕ) (ts : List Tree) → (length ts ≤ j) ⊎ (k < j) → s ≡ sum_to j (λ b. times x i b k * place (polynomials ts) b []) % M → s ≡ product_row x i k (polynomials ts) % M
-row_end M x i j k s ts h e =
-    e ∙ ap (λ z. z % M) (sum_bound j (len (polynomials ts)) _
-    (λ b le. elim h [ inl a ↦ times_zero (times x i b k) _ (past_list ts b [] (omega arith)) | inr g ↦ zero_times (times x i b k) _ (times_outside x i b k (inr (inl (omega arith)))) ])
-    (λ b le. times_zero (times x i b k) _ (past_end (polynomials ts) b [] le)))
+no_variables : (vs : List ℕ) (k : ℕ) (q : Power) (m : List Power) → place (numbers vs) k (q ∷ m) ≡ 0
+no_variables [] k q m = refl
+no_variables (u ∷ vs) zero q m = refl
+no_variables (u ∷ vs) (suc k) q m = no_variables vs k q m
 
--- ---- one row of a symbol
+abbrev all_zero : List ℕ → Bool
+all_zero [] = true
+all_zero (zero ∷ vs) = all_zero vs
+all_zero (suc v ∷ vs) = false
 
-other_zero : (x i j k : ℕ) → (x % 2 ≡ 0 → ⊥) → i ≤ k → (j ≡ k - i → ⊥) → times x i j k ≡ 0
-other_zero x i j k odd le ne = times_other x i j k odd (λ e. ne (omega arith))
+differ : false ≡ true → ⊥
+differ e = cc
 
-pub row_alone : (M x i k v n : ℕ) (ts : List Tree) (t : Tree) → (x % 2 ≡ 0 → ⊥) → i ≤ k → k - i < length ts → t ≡ get_or ts (k - i) t → v ≡ coefficient (polynomial_of t) [] → n ≡ (1 * v) % M → n ≡ product_row x i k (polynomials ts) % M
-row_alone M x i k v n ts t odd le lt et ev en =
-    let at : times x i (k - i) k * place (polynomials ts) (k - i) [] ≡ 1 * v = ap (λ z. z * place (polynomials ts) (k - i) []) (times_symbol x i (k - i) k odd (omega arith)) ∙ ap (λ z. 1 * z) (place_of ts (k - i) t [] et lt ∙ sym ev) in
-    en ∙ ap (λ z. z % M) (sym (sum_only (len (polynomials ts)) (k - i) _ (omega (arith, len_is ts)) (λ j ne. zero_times (times x i j k) _ (other_zero x i j k odd le ne)) ∙ at))
+zero_places : (vs : List ℕ) → all_zero vs ≡ true → (k : ℕ) (m : List Power) → place (numbers vs) k m ≡ 0
+zero_places [] z k m = refl
+zero_places (zero ∷ vs) z zero [] = refl
+zero_places (zero ∷ vs) z zero (q ∷ m) = refl
+zero_places (zero ∷ vs) z (suc k) m = zero_places vs z k m
+zero_places (suc v ∷ vs) z k m = absurd (differ z)
 
-pub row_past : (M x i k : ℕ) (ts : List Tree) → 0 < M → (x % 2 ≡ 0 → ⊥) → i ≤ k → length ts ≤ k - i → 0 ≡ product_row x i k (polynomials ts) % M
-row_past M x i k ts some odd le ge = sym (ap (λ z. z % M) (sum_zero (len (polynomials ts)) _ (λ j lj. zero_times (times x i j k) _ (other_zero x i j k odd le (λ e. omega (arith, len_is ts, lj, e))))) ∙ mod-eq_of_lt some)
+-- the numbers that a product begins with
+pub nothing : (k : ℕ) (m : List Power) → place (numbers (0 ∷ 0 ∷ 0 ∷ 0 ∷ 0 ∷ 0 ∷ 0 ∷ 0 ∷ 0 ∷ 0 ∷ 0 ∷ 0 ∷ 0 ∷ 0 ∷ 0 ∷ 0 ∷ 0 ∷ 0 ∷ [])) k m ≡ 0
+nothing k m = zero_places (0 ∷ 0 ∷ 0 ∷ 0 ∷ 0 ∷ 0 ∷ 0 ∷ 0 ∷ 0 ∷ 0 ∷ 0 ∷ 0 ∷ 0 ∷ 0 ∷ 0 ∷ 0 ∷ 0 ∷ 0 ∷ []) refl k m
 
-pub odd_zero : variable_of false 0 % 2 ≡ 0 → ⊥
-odd_zero h = omega arith
+sum_at : (M a b n r : ℕ) (m : List Power) → 0 < M → r ≡ (a + n) % M → n % M ≡ b % M → coefficient (num r) m ≡ (coefficient (num a) m + coefficient (num b) m) % M
+sum_at M a b n r [] some e h = e ∙ add_same M a n a b refl h
+sum_at M a b n r (q ∷ m) some e h = sym (mod-eq_of_lt some)
 
--- ---- one place
+times_at : (c v : ℕ) (m : List Power) → coefficient (num (c * v)) m ≡ c * coefficient (num v) m
+times_at c v [] = refl
+times_at c v (q ∷ m) = omega arith
 
-pub place_first : (M x k : ℕ) (ps qs : Polynomials) → 0 < M → 0 ≡ sum_to 0 (λ i. place ps i [] * product_row x i k qs) % M
-unfolding sum_to
-place_first M x k ps qs some = sym (mod-eq_of_lt some)
+-- ---- the numbers of places
 
-pub place_step : (M x i k v row n s r : ℕ) (ts : List Tree) (t : Tree) (qs : Polynomials) → i < length ts → t ≡ get_or ts i t → v ≡ coefficient (polynomial_of t) [] → row ≡ product_row x i k qs % M → n ≡ (v * row) % M → s ≡ sum_to i (λ a. place (polynomials ts) a [] * product_row x a k qs) % M → r ≡ (s + n) % M → r ≡ sum_to (i + 1) (λ a. place (polynomials ts) a [] * product_row x a k qs) % M
-unfolding sum_to
-place_step M x i k v row n s r ts t qs lt et ev erow en es er =
-    let one : i + 1 ≡ suc i = omega arith in
-    let S = sum_to i (λ a. place (polynomials ts) a [] * product_row x a k qs) in
-    let R = product_row x i k qs in
-    let V = place (polynomials ts) i [] in
-    let vr : (v * row) % M ≡ (V * R) % M = mul_same M v row V R (ap (λ z. z % M) (ev ∙ sym (place_of ts i t [] et lt))) (ap (λ z. z % M) erow ∙ mod-mod R M) in
-    let e : (s + n) % M ≡ (S + V * R) % M = add_same M s n S (V * R) (ap (λ z. z % M) es ∙ mod-mod S M) (ap (λ z. z % M) en ∙ (mod-mod (v * row) M ∙ vr)) in
-    rw one (er ∙ e)
+number_is : (p : Polynomial) (v : ℕ) → IsNumber p → v ≡ coefficient p [] → p ≡ num v
+number_is (num u) v is e = ap num (sym e)
+number_is (ext x ps) v is e = absurd is
 
-row_none : (x i k : ℕ) (qs : Polynomials) → k < i → product_row x i k qs ≡ 0
-row_none x i k qs lt = sum_zero (len qs) _ (λ j lj. zero_times (times x i j k) _ (times_outside x i j k (inl lt)))
+pub numbers_step : (j v : ℕ) (t : Tree) (vs ws : List ℕ) (ts : List Tree) → j < length vs → j < length ts → t ≡ get_or ts j t → IsNumber (polynomial_of t) → v ≡ coefficient (polynomial_of t) [] → ws ≡ set vs j v → IsNumbersOf j (numbers vs) (polynomials ts) → IsNumbersOf (j + 1) (numbers ws) (polynomials ts)
+numbers_step j v t vs ws ts lv lt et is ev ew a = rw ew (record {
+  canon = λ M x some c. set_canon M x vs j v (a.canon M x some c) (subst (λ z. z < M) (sym ev) (fits M (polynomial_of t) [] some (canon_of M x ts j t et c lt)));
+  first = λ k m lk. elim (cases_eq k j) [
+    | inl e ↦ subst (λ z. place (numbers (set vs j v)) z m ≡ place (polynomials ts) z m) (sym e) (set_here vs j v m lv ∙ (ap (λ p. coefficient p m) (sym (number_is (polynomial_of t) v is ev)) ∙ sym (place_of ts j t m et lt)))
+    | inr ne ↦ set_other vs j v k m ne ∙ a.first k m (omega arith)
+  ];
+  rest = λ k m le. set_other vs j v k m (λ e. omega arith) ∙ a.rest k m (omega arith);
+})
 
-pub place_end : (M x i k s : ℕ) (ts : List Tree) (qs : Polynomials) → (length ts ≤ i) ⊎ (k < i) → s ≡ sum_to i (λ a. place (polynomials ts) a [] * product_row x a k qs) % M → s ≡ product_place x k (polynomials ts) qs % M
-place_end M x i k s ts qs h e =
-    let l = len_is ts in
-    e ∙ ap (λ z. z % M) (sum_bound i (len (polynomials ts)) _
-    (λ a le. elim h [ inl b ↦ zero_times (place (polynomials ts) a []) _ (past_list ts a [] (omega arith)) | inr g ↦ times_zero (place (polynomials ts) a []) _ (row_none x a k qs (omega arith)) ])
-    (λ a le. zero_times (place (polynomials ts) a []) _ (past_end (polynomials ts) a [] le)))
+same_places : (n : ℕ) (us : Polynomials) (qs : List Tree) → n ≡ length qs → IsNumbersOf n us (polynomials qs) → (k : ℕ) (m : List Power) → place us k m ≡ place (polynomials qs) k m
+same_places n us qs e a k m = elim (cases_lt k n) [ inl lt ↦ a.first k m lt | inr ge ↦ a.rest k m ge ∙ sym (past_list qs k m (omega arith)) ]
 
--- ---- all places
+pub numbers_risen : (M x n : ℕ) (us : Polynomials) (qs : List Tree) → 0 < M → n ≡ length qs → AreCanonical M (polynomials qs) x → IsNumbersOf n us (polynomials qs) → AreRisen M x 0 us (polynomials qs)
+unfolding row_of_sums
+numbers_risen M x n us qs some e c a = record {
+  canon = a.canon M x some c;
+  at = λ j m top is. same_places n us qs e a j m ∙ sym (mod-eq_of_lt (fits_place M (polynomials qs) j m x some c));
+}
 
-pub first_none : (M x : ℕ) (ts : List Tree) (ps qs : Polynomials) → ts ≡ [] → AreFirst M x 0 (polynomials ts) ps qs
-first_none M x ts ps qs e = rw e (record { canon = λ y. tt; numbers = tt; at = λ k lt. absurd (omega arith) })
+-- ---- one row of a product
 
-pub first_push : (M x k v : ℕ) (out out' : List Tree) (ps qs : Polynomials) → 0 < M → length out ≡ k → out' ≡ out ++ Num v ∷ [] → v ≡ product_place x k ps qs % M → AreFirst M x k (polynomials out) ps qs → AreFirst M x (k + 1) (polynomials out') ps qs
-first_push M x k v out out' ps qs some l e ev a =
-    let below : v < M = omega (arith, ev, mod_below (product_place x k ps qs) M some) in
-    rw e (record {
-      canon = λ y. canon_snoc M y out (Num v) (a.canon y) (rw polynomial_of_num tt) (rw polynomial_of_num below);
-      numbers = grow out (Num v) a.numbers (rw polynomial_of_num tt);
-      at = λ j lt. elim (cases_lt j k) [
-        | inl le ↦ snoc_below out (Num v) j [] (omega arith) ∙ a.at j le
-        | inr ge ↦ (let same : j ≡ k = omega arith in snoc_last out (Num v) j [] (omega arith) ∙ (ap (λ p. coefficient p []) (polynomial_of_num v) ∙ (ev ∙ ap (λ n. product_place x n ps qs % M) (sym same))))
-      ];
-    })
+pub number_put : (M k by u o n r : ℕ) (vs ws : List ℕ) → 0 < M → k < length vs → o ≡ get_or vs k o → n ≡ (by * u) % M → r ≡ (o + n) % M → ws ≡ set vs k r → IsProductPut M k by (num 1) (num u) (numbers vs) (numbers ws)
+number_put M k by u o n r vs ws some lt eo en er ew = rw ew (record {
+  canon = λ x c up uq. set_canon M x vs k r c (subst (λ z. z < M) (sym er) (mod_below (o + n) M some));
+  here = λ m top is.
+      (let one : product_at (coefficient (num 1)) (coefficient (num u)) m ≡ coefficient (num u) m = number_left 1 m top (coefficient (num u)) is ∙ omega arith in
+      let sum : coefficient (num r) m ≡ (coefficient (num o) m + coefficient (num (by * u)) m) % M = sum_at M o (by * u) n r m some er (ap (λ z. z % M) en ∙ mod-mod (by * u) M) in
+      set_here vs k r m lt ∙ (sum ∙ (ap (λ z. (z + coefficient (num (by * u)) m) % M) (sym (number_place vs k o m lt eo)) ∙ ap (λ z. (place (numbers vs) k m + z) % M) (times_at by u m ∙ ap (λ z. by * z) (sym one)))));
+  other = λ j m ne. set_other vs k r j m ne;
+})
 
-numbers_none : (ps : Polynomials) (i : ℕ) (q : Power) (n : List Power) → AreNumbers ps → place ps i (q ∷ n) ≡ 0
-numbers_none none i q n a = refl
-numbers_none (more (num v) ps) zero q n a = refl
-numbers_none (more (num v) ps) (suc i) q n a = numbers_none ps i q n a.1
-numbers_none (more (ext x qs) ps) i q n a = absurd a.0
+-- the number of the place i goes from the factor into the place
+pub row_of_number : (M p x i n : ℕ) (us old new : Polynomials) → IsRow M p x i n (num 1) us old new → IsRow M 1 x i n (num p) us old new
+row_of_number M p x i n us old new r = record {
+  canon = r.canon;
+  at = λ j m top lt is.
+      (let F = row_factor x i j in
+      let G = place us j m in
+      let a = number_left 1 m top (place us j) is in
+      let b = number_left p m top (place us j) is in
+      let g : 1 * G ≡ G = omega arith in
+      let s : p * (F * G) ≡ 1 * (F * (p * G)) = omega arith in
+      r.at j m top lt is ∙ ap (λ z. (place old (i + j) m + z) % M) (ap (λ z. p * (F * z)) (a ∙ g) ∙ (s ∙ ap (λ z. 1 * (F * z)) (sym b))));
+  other = r.other;
+}
 
-at_one : (x y k : ℕ) (ps qs : Polynomials) → y % 2 ≡ x % 2 → product_place x k ps qs ≡ sum_to (len ps) (λ i. sum_to (len qs) (λ j. times y i j k * product_at (place ps i) (place qs j) []))
-unfolding product_at
-at_one x y k ps qs same = sum_same (len ps) _ _ (λ i li. sym (sum_times (len qs) (place ps i []) (λ j. times x i j k * place qs j [])) ∙ sum_same (len qs) _ _ (λ j lj. swapped (place ps i []) (times x i j k) (times y i j k) (place qs j []) (times_parity x y i j k same)))
+pub row_of_place : (M x i n v : ℕ) (p : Polynomial) (us old new : Polynomials) → IsNumber p → v ≡ coefficient p [] → IsRow M 1 x i n (num v) us old new → IsRow M 1 x i n p us old new
+row_of_place M x i n v p us old new is e r = subst (λ q. IsRow M 1 x i n q us old new) (sym (number_is p v is e)) r
+
+pub symbol_rows_step : (M i l n : ℕ) (p : Tree) (ps qs : List Tree) (us old mid new : Polynomials) → i < length ps → p ≡ get_or ps i p → n ≡ length qs → IsNumbersOf n us (polynomials qs) → AreRows M 1 (variable_of false l) i (polynomials ps) (polynomials qs) old mid → IsRow M 1 (variable_of false l) i n (polynomial_of p) us mid new → AreRows M 1 (variable_of false l) (i + 1) (polynomials ps) (polynomials qs) old new
+symbol_rows_step M i l n p ps qs us old mid new lt ep en u a r =
+    let x = variable_of false l in
+    let same : (j : ℕ) → place us j ≡ place (polynomials qs) j = λ j z m. same_places n us qs en u j m z in
+    let g : Gives M x i (polynomial_of p) us (polynomials qs) = λ j m top lj is. ap (λ (f : List Power → ℕ). (row_factor x i j * product_at (coefficient (polynomial_of p)) f m) % M) (same j) ∙ gives_symbol M x i (polynomial_of p) (polynomials qs) (odd_of false l refl) j m top lj is in
+    rows_step M 1 x i p ps us (polynomials qs) old mid new lt ep g a (subst (λ k. IsRow M 1 x i k (polynomial_of p) us mid new) (en ∙ sym (len_is qs)) r)
+
+-- ---- the next number is added to each
+
+pub number_raised : (M k t o r : ℕ) (vs ws : List ℕ) → 0 < M → k < length vs → o ≡ get_or vs k o → r ≡ (o + t) % M → ws ≡ set vs k r → IsPut M k 1 (num t) (numbers vs) (numbers ws)
+number_raised M k t o r vs ws some lt eo er ew = rw ew (record {
+  canon = λ x c d u. set_canon M x vs k r c (subst (λ z. z < M) (sym er) (mod_below (o + t) M some));
+  here = λ m top is. set_here vs k r m lt ∙ (sum_at M o t t r m some er refl ∙ (ap (λ z. (z + coefficient (num t) m) % M) (sym (number_place vs k o m lt eo)) ∙ ap (λ z. (place (numbers vs) k m + z) % M) (let h : coefficient (num t) m ≡ 1 * coefficient (num t) m = omega arith in h)));
+  other = λ j m ne. set_other vs k r j m ne;
+})
+
+-- ---- the whole product
+
+pub products_of_numbers : (M x n : ℕ) (ps : List Tree) (qs zs new : Polynomials) → n ≡ length ps → ((k : ℕ) (m : List Power) → place zs k m ≡ 0) → AreRows M 1 x n (polynomials ps) qs zs new → AreProducts M x new (polynomials ps) qs
+products_of_numbers M x n ps qs zs new e z a =
+    let a' : AreRows M 1 x (len (polynomials ps)) (polynomials ps) qs zs new = subst (λ k. AreRows M 1 x k (polynomials ps) qs zs new) (e ∙ sym (len_is ps)) a in
+    record { canon = a'.canon; at = λ k m top is. a'.at k m top is ∙ ap (λ s. s % M) (let h = z k m in omega arith) }
+
+pub past_products : (M x n : ℕ) (vs : List ℕ) (ps qs : List Tree) → 0 < M → n ≡ length ps + length qs - 1 → AreProducts M x (numbers vs) (polynomials ps) (polynomials qs) → (k : ℕ) (m : List Power) → n ≤ k → place (numbers vs) k m ≡ 0
+past_products M x n vs ps qs some e a k (q ∷ m) le = no_variables vs k q m
+past_products M x n vs ps qs some e a k [] le =
+    a.at k [] 0 tt
+    ∙ (ap (λ s. s % M) (sum_zero (len (polynomials ps)) _ (λ i li. sum_zero (len (polynomials qs)) _ (λ j lj. zero_times (times x i j k) _ (times_outside x i j k (inr (inr (omega (arith, len_is ps, len_is qs))))))))
+    ∙ mod-eq_of_lt some)
   where
-    swapped : (p c t q : ℕ) → t ≡ c → p * (c * q) ≡ t * (p * q)
-    swapped p c t q e = let h : p * (c * q) ≡ c * (p * q) = omega arith in h ∙ ap (λ z. z * (p * q)) (sym e)
-
-at_past : (x k : ℕ) (ps qs : Polynomials) (m : List Power) → len ps + len qs ≤ k → sum_to (len ps) (λ i. sum_to (len qs) (λ j. times x i j k * product_at (place ps i) (place qs j) m)) ≡ 0
-at_past x k ps qs m le = sum_zero (len ps) _ (λ i li. sum_zero (len qs) _ (λ j lj. zero_times (times x i j k) _ (times_outside x i j k (inr (inr (omega arith))))))
-
-at_more : (x k : ℕ) (ps qs : Polynomials) (q : Power) (n : List Power) → 0 < q.exp → AreNumbers ps → AreNumbers qs → sum_to (len ps) (λ i. sum_to (len qs) (λ j. times x i j k * product_at (place ps i) (place qs j) (q ∷ n))) ≡ 0
-at_more x k ps qs q n pos ap' aq = sum_zero (len ps) _ (λ i li. sum_zero (len qs) _ (λ j lj. times_zero (times x i j k) _ (product_above q n (place ps i) (place qs j) pos (λ e m. numbers_none ps i _ m ap') (λ e m. numbers_none qs j _ m aq))))
-
-chains_at : (M x y : ℕ) (rs ps qs : List Tree) → 0 < M → y % 2 ≡ x % 2 → length rs ≡ length ps + length qs → AreNumbers (polynomials ps) → AreNumbers (polynomials qs) → AreFirst M x (length ps + length qs) (polynomials rs) (polynomials ps) (polynomials qs) → (k : ℕ) (m : List Power) (top : ℕ) → IsMonomial m top → place (polynomials rs) k m ≡ sum_to (len (polynomials ps)) (λ i. sum_to (len (polynomials qs)) (λ j. times y i j k * product_at (place (polynomials ps) i) (place (polynomials qs) j) m)) % M
-chains_at M x y rs ps qs some even l np nq a k [] top is = elim (cases_lt k (length ps + length qs)) [
-  | inl lt ↦ a.at k lt ∙ ap (λ n. n % M) (at_one x y k (polynomials ps) (polynomials qs) even)
-  | inr ge ↦ past_list rs k [] (omega arith) ∙ sym (ap (λ n. n % M) (at_past y k (polynomials ps) (polynomials qs) [] (omega (arith, len_is ps, len_is qs))) ∙ mod-eq_of_lt some)
-]
-chains_at M x y rs ps qs some even l np nq a k (q ∷ n) top is = numbers_none (polynomials rs) k q n a.numbers ∙ sym (ap (λ z. z % M) (at_more y k (polynomials ps) (polynomials qs) q n is.1 np nq) ∙ mod-eq_of_lt some)
-
-pub chains_are : (M x y n : ℕ) (rs ps qs : List Tree) → 0 < M → y % 2 ≡ x % 2 → length rs ≡ n → n ≡ length ps + length qs → AreNumbers (polynomials ps) → AreNumbers (polynomials qs) → AreFirst M x n (polynomials rs) (polynomials ps) (polynomials qs) → AreProducts M y (polynomials rs) (polynomials ps) (polynomials qs)
-chains_are M x y n rs ps qs some even l e np nq a =
-    let a' : AreFirst M x (length ps + length qs) (polynomials rs) (polynomials ps) (polynomials qs) = subst (λ z. AreFirst M x z (polynomials rs) (polynomials ps) (polynomials qs)) e a in
-    record { canon = a'.canon y; at = chains_at M x y rs ps qs some even (l ∙ e) np nq a' }
-
-pub products_built : (M x : ℕ) (r : Polynomial) (rs ps qs : Polynomials) → 0 < M → AreCanonical M ps x → AreCanonical M qs x → AreProducts M x rs ps qs → IsBuilt M x rs r → IsProductIn M x r ps qs
-products_built M x r rs ps qs some cp cq prods b = record { canon = b.canon; under = b.under; at = λ m top is. b.at m top is ∙ ext_at M x rs ps qs cp cq prods some m top is }
-
-pub parity_of : (b : Bool) (l : ℕ) → variable_of b l % 2 ≡ variable_of b 0 % 2
-parity_of true l = omega arith
-parity_of false l = omega arith
+    zero_times : (a b : ℕ) → a ≡ 0 → a * b ≡ 0
+    zero_times a b e = ap (λ x. x * b) e ∙ omega arith

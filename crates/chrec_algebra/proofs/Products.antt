@@ -164,37 +164,68 @@ above_places : (M x : ℕ) (ps : Polynomials) (q : Power) (n : List Power) → A
 above_places M x none q n c lt = rw (ne_eqb q.var x (λ e. omega arith)) refl
 above_places M x (more p ps) q n c lt = rw (ne_eqb q.var x (λ e. omega arith)) (above M p x q n c.1 c.0 (omega arith))
 
-module _ (M x : ℕ) (rs ps qs : Polynomials) (c : AreCanonical M ps x) (d : AreCanonical M qs x) (a : AreProducts M x rs ps qs) where
-  below_at : (m : List Power) → IsMonomial m x → coefficient (ext x rs) m ≡ product_at (coefficient (ext x ps)) (coefficient (ext x qs)) m % M
-  below_at m is =
-      low_place x rs m is
-      ∙ (a.at 0 m x is
-      ∙ (ap (λ s. s % M) (rows x 0 m ps qs ∙ at_first x m ps qs)
-      ∙ same_product M m x (place ps 0) (coefficient (ext x ps)) (place qs 0) (coefficient (ext x qs)) is (λ n i. ap (λ s. s % M) (sym (low_place x ps n i))) (λ n i. ap (λ s. s % M) (sym (low_place x qs n i)))))
+-- what the products of places give to the place k
+abbrev pub products_at : ℕ → Polynomials → Polynomials → ℕ → List Power → ℕ
+products_at x ps qs k m = sum_to (len ps) (λ i. sum_to (len qs) (λ j. times x i j k * product_at (place ps i) (place qs j) m))
 
-  same_at : (k : ℕ) (m : List Power) → IsMonomial m x → place rs k m ≡ product_at (coefficient (ext x ps)) (coefficient (ext x qs)) (power x k ∷ m) % M
+module _ (M x : ℕ) (ps qs : Polynomials) where
+  low_sum : (m : List Power) → IsMonomial m x → products_at x ps qs 0 m % M ≡ product_at (coefficient (ext x ps)) (coefficient (ext x qs)) m % M
+  low_sum m is =
+      ap (λ s. s % M) (rows x 0 m ps qs ∙ at_first x m ps qs)
+      ∙ same_product M m x (place ps 0) (coefficient (ext x ps)) (place qs 0) (coefficient (ext x qs)) is (λ n i. ap (λ s. s % M) (sym (low_place x ps n i))) (λ n i. ap (λ s. s % M) (sym (low_place x qs n i)))
+
+  high_sum : (k : ℕ) (m : List Power) → IsMonomial m x → products_at x ps qs k m % M ≡ product_at (coefficient (ext x ps)) (coefficient (ext x qs)) (power x k ∷ m) % M
   unfolding product_at
-  same_at k m is =
-      a.at k m x is
-      ∙ (ap (λ s. s % M) (rows x k m ps qs)
+  high_sum k m is =
+      ap (λ s. s % M) (rows x k m ps qs)
       ∙ sum_mod M (suc k) _ _ (λ i li. sum_mod M (suc k) _ _ (λ j lj. mul_same M _ _ _ _ refl
       (same_product M m x (place ps i) (λ n. coefficient (ext x ps) (with_power x i n)) (place qs j) (λ n. coefficient (ext x qs) (with_power x j n)) is
-      (λ n w. ap (λ s. s % M) (sym (high_place x ps i n w))) (λ n w. ap (λ s. s % M) (sym (high_place x qs j n w)))))))
+      (λ n w. ap (λ s. s % M) (sym (high_place x ps i n w))) (λ n w. ap (λ s. s % M) (sym (high_place x qs j n w))))))
 
-  above_at : 0 < M → (q : Power) (m : List Power) → 0 < q.exp → x < q.var → coefficient (ext x rs) (q ∷ m) ≡ product_at (coefficient (ext x ps)) (coefficient (ext x qs)) (q ∷ m) % M
-  above_at some q m pos lt =
-      above_places M x rs q m a.canon lt
-      ∙ (sym (mod-eq_of_lt some) ∙ ap (λ s. s % M) (sym (product_above q m _ _ pos (λ i n. above_places M x ps (power q.var (suc i)) n c lt) (λ i n. above_places M x qs (power q.var (suc i)) n d lt))))
+  no_sum : AreCanonical M ps x → AreCanonical M qs x → (q : Power) (m : List Power) → 0 < q.exp → x < q.var → product_at (coefficient (ext x ps)) (coefficient (ext x qs)) (q ∷ m) ≡ 0
+  no_sum c d q m pos lt = product_above q m _ _ pos (λ i n. above_places M x ps (power q.var (suc i)) n c lt) (λ i n. above_places M x qs (power q.var (suc i)) n d lt)
 
-  pub ext_at : 0 < M → (m : List Power) (top : ℕ) → IsMonomial m top → coefficient (ext x rs) m ≡ product_at (coefficient (ext x ps)) (coefficient (ext x qs)) m % M
-  ext_at some [] top is = below_at [] tt
-  ext_at some (q ∷ m) top is =
+-- r is old + c * s, where s is p modulo M
+pub plus_same : (M r old c s p : ℕ) → r ≡ (old + c * s) % M → s % M ≡ p % M → r ≡ (old + c * p) % M
+plus_same M r old c s p e h = e ∙ add_same M old (c * s) old (c * p) refl (mul_same M c s c p refl h)
+
+-- the places of a sum with a product
+module _ (M c x : ℕ) (new old ps qs : Polynomials) (co : AreCanonical M old x) (cn : AreCanonical M new x) (cp : AreCanonical M ps x) (cq : AreCanonical M qs x) (a : (k : ℕ) (m : List Power) (top : ℕ) → IsMonomial m top → place new k m ≡ (place old k m + c * products_at x ps qs k m) % M) where
+  low_added : (m : List Power) → IsMonomial m x → coefficient (ext x new) m ≡ (coefficient (ext x old) m + c * product_at (coefficient (ext x ps)) (coefficient (ext x qs)) m) % M
+  low_added m is =
+      low_place x new m is
+      ∙ (plus_same M (place new 0 m) (place old 0 m) c _ _ (a 0 m x is) (low_sum M x ps qs m is)
+      ∙ ap (λ z. (z + c * product_at (coefficient (ext x ps)) (coefficient (ext x qs)) m) % M) (sym (low_place x old m is)))
+
+  above_added : 0 < M → (q : Power) (m : List Power) → 0 < q.exp → x < q.var → coefficient (ext x new) (q ∷ m) ≡ (coefficient (ext x old) (q ∷ m) + c * product_at (coefficient (ext x ps)) (coefficient (ext x qs)) (q ∷ m)) % M
+  above_added some q m pos lt =
+      let n = above_places M x new q m cn lt in
+      let o = above_places M x old q m co lt in
+      let p : c * product_at (coefficient (ext x ps)) (coefficient (ext x qs)) (q ∷ m) ≡ 0 = times_zero c _ (no_sum M x ps qs cp cq q m pos lt) in
+      let z : coefficient (ext x old) (q ∷ m) + c * product_at (coefficient (ext x ps)) (coefficient (ext x qs)) (q ∷ m) ≡ 0 = omega arith in
+      n ∙ sym (ap (λ s. s % M) z ∙ mod-eq_of_lt some)
+
+  pub ext_added : 0 < M → (m : List Power) (top : ℕ) → IsMonomial m top → coefficient (ext x new) m ≡ (coefficient (ext x old) m + c * product_at (coefficient (ext x ps)) (coefficient (ext x qs)) m) % M
+  ext_added some [] top is = low_added [] tt
+  ext_added some (q ∷ m) top is =
       elim (cases_order q.var x) [
         | inl e ↦ (let is' : IsMonomial m x = subst (IsMonomial m) e is.2 in
-            let P : ℕ → Type 0 = λ y. place rs q.exp m ≡ product_at (coefficient (ext x ps)) (coefficient (ext x qs)) (power y q.exp ∷ m) % M in
-            rw (eq-eqb q.var x e) (subst P (sym e) (same_at q.exp m is')))
+            let P : ℕ → Type 0 = λ y. place new q.exp m ≡ (place old q.exp m + c * product_at (coefficient (ext x ps)) (coefficient (ext x qs)) (power y q.exp ∷ m)) % M in
+            rw (eq-eqb q.var x e) (subst P (sym e) (plus_same M (place new q.exp m) (place old q.exp m) c _ _ (a q.exp m x is') (high_sum M x ps qs q.exp m is'))))
         | inr other ↦ (elim other [
-          | inl lt ↦ below_at (q ∷ m) (lt, is.1, is.2)
-          | inr gt ↦ above_at some q m is.1 gt
+          | inl lt ↦ low_added (q ∷ m) (lt, is.1, is.2)
+          | inr gt ↦ above_added some q m is.1 gt
         ])
       ]
+
+-- the places of a product
+pub ext_at : (M x : ℕ) (rs ps qs : Polynomials) → AreCanonical M ps x → AreCanonical M qs x → AreProducts M x rs ps qs → 0 < M → (m : List Power) (top : ℕ) → IsMonomial m top → coefficient (ext x rs) m ≡ product_at (coefficient (ext x ps)) (coefficient (ext x qs)) m % M
+ext_at M x rs ps qs c d a some m top is =
+    let P = product_at (coefficient (ext x ps)) (coefficient (ext x qs)) m in
+    let one : 0 + 1 * P ≡ P = omega arith in
+    ext_added M 1 x rs none ps qs tt a.canon c d (λ k n t w. a.at k n t w ∙ (let e : products_at x ps qs k n ≡ 0 + 1 * products_at x ps qs k n = omega arith in ap (λ z. z % M) e)) some m top is
+    ∙ ap (λ z. z % M) (ap (λ z. z + 1 * P) (empty_at x m) ∙ one)
+  where
+    empty_at : (x : ℕ) (m : List Power) → coefficient (ext x none) m ≡ 0
+    empty_at x [] = refl
+    empty_at x (q ∷ m) = elim (cases_eq q.var x) [ inl e ↦ rw (eq-eqb q.var x e) refl | inr ne ↦ rw (ne_eqb q.var x ne) refl ]

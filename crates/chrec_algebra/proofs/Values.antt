@@ -299,7 +299,7 @@ module _ (env : ℕ → ℕ) (M d : ℕ) (some : 0 < d) where
 
 -- ---- the laws
 
-pub height : Polynomial → ℕ
+unfoldable pub height : Polynomial → ℕ
 height (num v) = 0
 height (ext x ps) = suc x
 

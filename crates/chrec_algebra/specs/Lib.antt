@@ -6,3 +6,4 @@ pub mod Limits
 pub mod Entries
 pub mod Numbers
 pub mod Onto
+pub mod Places

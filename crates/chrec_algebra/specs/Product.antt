@@ -1,6 +1,6 @@
 -- products of polynomials, by their coefficients
-use Rattle.std.specs.Prelude.{◌≡◌, ℕ, zero, suc, ◌+◌, ◌*◌, ◌%◌, ◌<◌, ◌≤◌, List, [], ◌∷◌, if◌then◌else◌, ◌==◌}
-use Rattle.scev_binom.specs.Binomial.{product_coefficient}
+use Rattle.std.specs.Prelude.{◌≡◌, ℕ, zero, suc, ◌+◌, ◌*◌, ◌%◌, ◌<◌, ◌≤◌, ◌⊎◌, List, [], ◌∷◌, if◌then◌else◌, ◌==◌}
+use Rattle.scev_binom.specs.Binomial.{binomial, product_coefficient}
 use Rattle.scev_tree.specs.Polynomial.{Polynomial, Polynomials, num, ext, none, more, Power, with_power, coefficient, place, IsMonomial, Under, IsCanonical, AreCanonical}
 use Rattle.scev_tree.specs.Tree.{len}
 
@@ -35,23 +35,6 @@ pub record IsPut (M k c : ℕ) (t : Polynomial) (old new : Polynomials) : Type 0
   pub here : (m : List Power) (top : ℕ) → IsMonomial m top → place new k m ≡ (place old k m + c * coefficient t m) % M
   pub other : (j : ℕ) (m : List Power) → (j ≡ k → ⊥) → place new j m ≡ place old j m
 
--- t, the product of the places i and j of x, is added to the places below bound
-pub record IsSpread (M x i j bound : ℕ) (t : Polynomial) (old new : Polynomials) : Type 0 where
-  pub canon : AreCanonical M new x
-  pub below : (k : ℕ) (m : List Power) (top : ℕ) → k < bound → IsMonomial m top → place new k m ≡ (place old k m + times x i j k * coefficient t m) % M
-  pub rest : (k : ℕ) (m : List Power) → bound ≤ k → place new k m ≡ place old k m
-
--- the same for all places
-pub record IsSpreadOut (M x i j : ℕ) (t : Polynomial) (old new : Polynomials) : Type 0 where
-  pub canon : AreCanonical M new x
-  pub at : (k : ℕ) (m : List Power) (top : ℕ) → IsMonomial m top → place new k m ≡ (place old k m + times x i j k * coefficient t m) % M
-
--- r is the product of the polynomials in x with the places ps and qs
-pub record IsProductIn (M x : ℕ) (r : Polynomial) (ps qs : Polynomials) : Type 0 where
-  pub canon : IsCanonical M r
-  pub under : (y : ℕ) → x < y → Under r y
-  pub at : (m : List Power) (top : ℕ) → IsMonomial m top → coefficient r m ≡ product_at (coefficient (ext x ps)) (coefficient (ext x qs)) m % M
-
 abbrev mutual
   -- at most 9 places at each level
   pub Narrow : Polynomial → Type 0
@@ -73,12 +56,35 @@ pub record IsAdded (M c : ℕ) (r old t : Polynomial) : Type 0 where
   pub under : (x : ℕ) → Under old x → Under t x → Under r x
   pub at : (m : List Power) (top : ℕ) → IsMonomial m top → coefficient r m ≡ (coefficient old m + c * coefficient t m) % M
 
--- the products of p, place i, with the first n of the places qs are added
-pub record IsRow (M x i n : ℕ) (p : Polynomial) (qs old new : Polynomials) : Type 0 where
-  pub canon : AreCanonical M new x
-  pub at : (k : ℕ) (m : List Power) (top : ℕ) → IsMonomial m top → place new k m ≡ (place old k m + sum_to n (λ b. times x i b k * product_at (coefficient p) (place qs b) m)) % M
+-- r is old + c * a * b
+pub record IsProductAdded (M c : ℕ) (r old a b : Polynomial) : Type 0 where
+  pub canon : IsCanonical M r
+  pub under : (x : ℕ) → Under old x → Under a x → Under b x → Under r x
+  pub at : (m : List Power) (top : ℕ) → IsMonomial m top → coefficient r m ≡ (coefficient old m + c * product_at (coefficient a) (coefficient b) m) % M
 
--- the places of the products of the first n of ps with all of qs
-pub record AreRows (M x n : ℕ) (rs ps qs : Polynomials) : Type 0 where
-  pub canon : AreCanonical M rs x
-  pub at : (k : ℕ) (m : List Power) (top : ℕ) → IsMonomial m top → place rs k m ≡ sum_to n (λ a. sum_to (len qs) (λ b. times x a b k * product_at (place ps a) (place qs b) m)) % M
+-- the same for the polynomials in x with the places ps and qs
+pub record IsProductAddedIn (M c x : ℕ) (r old : Polynomial) (ps qs : Polynomials) : Type 0 where
+  pub canon : IsCanonical M r
+  pub under : (y : ℕ) → x < y → Under old y → Under r y
+  pub at : (m : List Power) (top : ℕ) → IsMonomial m top → coefficient r m ≡ (coefficient old m + c * product_at (coefficient (ext x ps)) (coefficient (ext x qs)) m) % M
+
+-- c * p * q is added to the place k
+pub record IsProductPut (M k c : ℕ) (p q : Polynomial) (old new : Polynomials) : Type 0 where
+  pub canon : (x : ℕ) → AreCanonical M old x → Under p x → Under q x → AreCanonical M new x
+  pub here : (m : List Power) (top : ℕ) → IsMonomial m top → place new k m ≡ (place old k m + c * product_at (coefficient p) (coefficient q) m) % M
+  pub other : (j : ℕ) (m : List Power) → (j ≡ k → ⊥) → place new j m ≡ place old j m
+
+-- what the place i times the place j of a row is multiplied by in the place i + j
+abbrev pub row_factor : ℕ → ℕ → ℕ → ℕ
+row_factor x i j = if x % 2 == 0 then binomial (i + j) i else 1
+
+-- the products of p, which is place i, with the first n of the places us of its row are added
+pub record IsRow (M c x i n : ℕ) (p : Polynomial) (us old new : Polynomials) : Type 0 where
+  pub canon : AreCanonical M new x
+  pub at : (j : ℕ) (m : List Power) (top : ℕ) → j < n → IsMonomial m top → place new (i + j) m ≡ (place old (i + j) m + c * (row_factor x i j * product_at (coefficient p) (place us j) m)) % M
+  pub other : (k : ℕ) (m : List Power) → (k < i) ⊎ (i + n ≤ k) → place new k m ≡ place old k m
+
+-- c times the products of the first n of ps with all of qs are added to the places
+pub record AreRows (M c x n : ℕ) (ps qs old new : Polynomials) : Type 0 where
+  pub canon : AreCanonical M new x
+  pub at : (k : ℕ) (m : List Power) (top : ℕ) → IsMonomial m top → place new k m ≡ (place old k m + c * sum_to n (λ a. sum_to (len qs) (λ b. times x a b k * product_at (place ps a) (place qs b) m))) % M

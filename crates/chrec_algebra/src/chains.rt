@@ -1,13 +1,13 @@
-ghost use Rattle.std.specs.Prelude.{◌≡◌, ℕ, true, false, IsTrue, ◌↔◌, ◌%◌, ◌≤◌, ◌^◌, IfOk, [], length};
-ghost use Rattle.chrec_algebra.specs.Product.{AreProducts};
-ghost use Rattle.chrec_algebra.specs.Numbers.{IsNumber, AreNumbers, product_place, product_row};
-ghost use Rattle.scev_tree.specs.Polynomial.{coefficient, variable_of};
+ghost use Rattle.std.specs.Prelude.{◌≡◌, ℕ, true, false, IsTrue, ◌↔◌, ◌-◌, ◌*◌, ◌%◌, ◌≤◌, ◌^◌, [], length};
+ghost use Rattle.chrec_algebra.specs.Numbers.{IsNumber, AreNumbers, numbers, IsNumbersOf};
+ghost use Rattle.chrec_algebra.specs.Places.{AreRisen, IsRaised};
+ghost use Rattle.chrec_algebra.specs.Product.{AreProducts, AreRows, IsRow, row_factor as row_factor_of};
+ghost use Rattle.scev_tree.specs.Polynomial.{coefficient, num, AreCanonical, variable_of};
 ghost use Rattle.scev_tree.specs.Tree.{polynomial_of, polynomials};
 
-use crate::coefficients::coefficient;
-use arith_word::{Width, add, mul};
+use crate::coefficients::binomial;
+use arith_word::{Label, Width, add, mul};
 use scev_tree::Tree;
-use std::alloc::{AllocError, Global};
 
 #[tactic(auto, using(crate::proofs::Sides::polynomial_of_ext, crate::proofs::Sides::polynomial_of_num))]
 fn is_number(t: &Tree) -> bool
@@ -42,87 +42,123 @@ fn number(t: &Tree) -> u64
     }
 }
 
-// The sum over j of the place j of a counter times its coefficient in the place k of the product
-// with a place i.
-fn row_of_counter(w: Width, qs: &[Tree], i: usize, k: usize) -> u64
-    requires index { i ≤ 8 }
-    requires from { i ≤ k }
-    requires to { k ≤ 17 }
-    requires count { length qs.now ≤ 9 }
-    requires numbers { AreNumbers (polynomials qs.now) }
-    ensures { result ≡ product_row (variable_of true 0) i k (polynomials qs.now) % 2 ^ w }
+// The numbers of places, with zeros after them.
+fn numbers_of(ts: &[Tree]) -> [u64; 9]
+    requires count { length ts.now ≤ 9 }
+    requires numbers { AreNumbers (polynomials ts.now) }
+    ensures count { length result ≡ 9 }
+    ensures numbers { IsNumbersOf (length ts.now) (numbers result) (polynomials ts.now) }
 {
-    let mut sum = 0u64;
-    for j in k - i..qs.len().min(k + 1) {
-        let c = coefficient(i, j, k);
-        sum = add(w, sum, mul(w, c, number(&qs[j])));
+    let mut out = [0; 9];
+    for (j, t) in ts.iter().enumerate() {
+        out[j] = number(t);
     }
-    sum
+    out
 }
 
-// The same for a symbol, where the place k - i alone counts.
-fn row_of_symbol(w: Width, qs: &[Tree], i: usize, k: usize) -> u64
-    requires from { i ≤ k }
-    requires numbers { AreNumbers (polynomials qs.now) }
-    ensures { result ≡ product_row (variable_of false 0) i k (polynomials qs.now) % 2 ^ w }
+/// The number that the place i times the place j goes with in the place i + j, times c.
+pub fn row_factor(w: Width, counter: bool, var: Label, c: u64, i: usize, j: usize) -> u64
+    requires left { i ≤ 8 }
+    requires right { j ≤ 8 }
+    ensures { result % 2 ^ w ≡ (c * row_factor_of (variable_of counter var.0) i j) % 2 ^ w }
 {
-    if k - i < qs.len() {
-        mul(w, 1, number(&qs[k - i]))
-    } else {
-        0
-    }
-}
-
-fn row_of_product(w: Width, counter: bool, qs: &[Tree], i: usize, k: usize) -> u64
-    requires index { i ≤ 8 }
-    requires from { i ≤ k }
-    requires to { k ≤ 17 }
-    requires count { length qs.now ≤ 9 }
-    requires numbers { AreNumbers (polynomials qs.now) }
-    ensures { result ≡ product_row (variable_of counter 0) i k (polynomials qs.now) % 2 ^ w }
-{
+    let _ = var;
     if counter {
-        row_of_counter(w, qs, i, k)
+        mul(w, c, binomial(i + j, i))
     } else {
-        row_of_symbol(w, qs, i, k)
+        c
     }
 }
 
-// The place k of the product.
-fn place_of_product(w: Width, counter: bool, ps: &[Tree], qs: &[Tree], k: usize) -> u64
-    requires to { k ≤ 17 }
-    requires left_count { length ps.now ≤ 9 }
-    requires right_count { length qs.now ≤ 9 }
-    requires left { AreNumbers (polynomials ps.now) }
-    requires right { AreNumbers (polynomials qs.now) }
-    ensures { result ≡ product_place (variable_of counter 0) k (polynomials ps.now) (polynomials qs.now) % 2 ^ w }
-{
-    let mut sum = 0u64;
-    for i in 0..ps.len().min(k + 1) {
-        let row = row_of_product(w, counter, qs, i, k);
-        sum = add(w, sum, mul(w, number(&ps[i]), row));
-    }
-    sum
-}
-
-/// The places of the product of two polynomials in one variable whose places are numbers.
-pub fn mul_chains(
-    alloc: Global,
+// Adds p, which is place i, times the first n of the numbers us to the numbers of the product.
+fn add_number_row(
     w: Width,
+    out: &mut [u64; 18],
     counter: bool,
-    ps: &[Tree],
-    qs: &[Tree],
-) -> Result<Vec<Tree>, AllocError>
+    var: Label,
+    i: usize,
+    p: u64,
+    us: &[u64; 9],
+    n: usize,
+)
+    requires index { i ≤ 8 }
+    requires count { n ≤ 9 }
+    requires places { AreCanonical (2 ^ w) (numbers out.old) (variable_of counter var.0) }
+    ensures { IsRow (2 ^ w) 1 (variable_of counter var.0) i n (num p) (numbers us.now) (numbers out.old) (numbers out.new) }
+{
+    for j in 0..n {
+        let by = row_factor(w, counter, var, p, i, j);
+        out[i + j] = add(w, out[i + j], mul(w, by, us[j]));
+    }
+}
+
+// Adds to each number the next.
+fn raise_numbers(w: Width, us: &mut [u64; 9])
+    requires { (x : ℕ) × AreCanonical (2 ^ w) (numbers us.old) x }
+    ensures { IsRaised (2 ^ w) (numbers us.old) (numbers us.new) }
+{
+    for j in 1..9usize {
+        us[j - 1] = add(w, us[j - 1], us[j]);
+    }
+}
+
+// Makes the row i of sums from the row before it.
+fn raise_numbers_to(w: Width, us: &mut [u64; 9], i: usize, qs: &[Tree])
+    requires { (x : ℕ) × AreRisen (2 ^ w) x (i - 1) (numbers us.old) (polynomials qs.now) }
+    ensures { (x : ℕ) → AreRisen (2 ^ w) x (i - 1) (numbers us.old) (polynomials qs.now) → AreRisen (2 ^ w) x i (numbers us.new) (polynomials qs.now) }
+{
+    let _ = qs;
+    if i > 0 {
+        raise_numbers(w, us);
+    }
+}
+
+fn multiply_counters(w: Width, out: &mut [u64; 18], var: Label, ps: &[Tree], qs: &[Tree])
     requires left_count { length ps.now ≤ 9 }
     requires right_count { length qs.now ≤ 9 }
-    requires left { AreNumbers (polynomials ps.now) }
-    requires right { AreNumbers (polynomials qs.now) }
-    ensures { IfOk result (λ r. (x : ℕ) → x % 2 ≡ variable_of counter 0 % 2 → AreProducts (2 ^ w) x (polynomials r.items) (polynomials ps.now) (polynomials qs.now)) }
+    requires left_numbers { AreNumbers (polynomials ps.now) }
+    requires right_numbers { AreNumbers (polynomials qs.now) }
+    requires places { AreCanonical (2 ^ w) (numbers out.old) (variable_of true var.0) }
+    requires right { AreCanonical (2 ^ w) (polynomials qs.now) (variable_of true var.0) }
+    ensures { AreRows (2 ^ w) 1 (variable_of true var.0) (length ps.now) (polynomials ps.now) (polynomials qs.now) (numbers out.old) (numbers out.new) }
 {
-    let count = ps.len() + qs.len();
-    let mut out = Vec::with_capacity(alloc, count)?;
-    for k in 0..count {
-        out.push(Tree::Num(place_of_product(w, counter, ps, qs, k)))?;
+    let mut us = numbers_of(qs);
+    for (i, p) in ps.iter().enumerate() {
+        raise_numbers_to(w, &mut us, i, qs);
+        add_number_row(w, out, true, var, i, number(p), &us, qs.len());
     }
-    Ok(out)
+}
+
+fn multiply_symbols(w: Width, out: &mut [u64; 18], var: Label, ps: &[Tree], qs: &[Tree])
+    requires left_count { length ps.now ≤ 9 }
+    requires right_count { length qs.now ≤ 9 }
+    requires left_numbers { AreNumbers (polynomials ps.now) }
+    requires right_numbers { AreNumbers (polynomials qs.now) }
+    requires places { AreCanonical (2 ^ w) (numbers out.old) (variable_of false var.0) }
+    requires right { AreCanonical (2 ^ w) (polynomials qs.now) (variable_of false var.0) }
+    ensures { AreRows (2 ^ w) 1 (variable_of false var.0) (length ps.now) (polynomials ps.now) (polynomials qs.now) (numbers out.old) (numbers out.new) }
+{
+    let us = numbers_of(qs);
+    for (i, p) in ps.iter().enumerate() {
+        add_number_row(w, out, false, var, i, number(p), &us, qs.len());
+    }
+}
+
+/// The numbers of the product of two polynomials in one variable whose places are numbers.
+pub fn multiply_chains(w: Width, counter: bool, var: Label, ps: &[Tree], qs: &[Tree]) -> [u64; 18]
+    requires left_count { length ps.now ≤ 9 }
+    requires right_count { length qs.now ≤ 9 }
+    requires left_numbers { AreNumbers (polynomials ps.now) }
+    requires right_numbers { AreNumbers (polynomials qs.now) }
+    requires right { AreCanonical (2 ^ w) (polynomials qs.now) (variable_of counter var.0) }
+    ensures count { length result ≡ 18 }
+    ensures products { AreProducts (2 ^ w) (variable_of counter var.0) (numbers result) (polynomials ps.now) (polynomials qs.now) }
+{
+    let mut out = [0; 18];
+    if counter {
+        multiply_counters(w, &mut out, var, ps, qs);
+    } else {
+        multiply_symbols(w, &mut out, var, ps, qs);
+    }
+    out
 }

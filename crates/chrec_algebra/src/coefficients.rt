@@ -1,5 +1,5 @@
-ghost use Rattle.std.specs.Prelude.{◌≡◌, ◌+◌, ◌≤◌};
-ghost use Rattle.scev_binom.specs.Binomial.{binomial as binomial_of, product_coefficient};
+ghost use Rattle.std.specs.Prelude.{◌≡◌, ◌≤◌};
+ghost use Rattle.scev_binom.specs.Binomial.{binomial as binomial_of};
 
 // C(n,k) at the place 9 * n + k, for n of at most 16 and k of at most 8.
 const BINOMIALS: [u64; 153] = [
@@ -12,22 +12,11 @@ const BINOMIALS: [u64; 153] = [
     1820, 4368, 8008, 11440, 12870,
 ];
 
-fn binomial(n: usize, k: usize) -> u64
+/// C(n,k) from the table.
+pub fn binomial(n: usize, k: usize) -> u64
     requires row { n ≤ 16 }
     requires place { k ≤ 8 }
     ensures { result ≡ binomial_of n k }
 {
     BINOMIALS[9 * n + k]
-}
-
-/// The coefficient of C(n,k) in C(n,i) * C(n,j), which is C(k,i) * C(i,k-j).
-pub fn coefficient(i: usize, j: usize, k: usize) -> u64
-    requires left { i ≤ 8 }
-    requires right { j ≤ 8 }
-    requires from_left { i ≤ k }
-    requires from_right { j ≤ k }
-    requires to { k ≤ i + j }
-    ensures { result ≡ product_coefficient i j k }
-{
-    binomial(k, i) * binomial(i, k - j)
 }

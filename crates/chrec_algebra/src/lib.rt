@@ -10,6 +10,7 @@ mod coefficients;
 mod laws;
 mod limits;
 mod onto;
+mod places;
 mod product;
 mod replace;
 mod sum;

@@ -1,32 +1,45 @@
-ghost use Rattle.std.specs.Prelude.{◌≡◌, ℕ, ◌<◌, ◌≤◌, ◌^◌, IfOk, IfSome, length};
+ghost use Rattle.std.specs.Prelude.{◌≡◌, ℕ, true, false, ◌⊎◌, ◌<◌, ◌≤◌, ◌^◌, List, IfOk, IfSome, length};
 ghost use Rattle.chrec_algebra.specs.Align.{IsSide};
 ghost use Rattle.chrec_algebra.specs.Product.{IsAdded, IsPut};
-ghost use Rattle.chrec_algebra.specs.Onto.{AreAdded};
-ghost use Rattle.scev_tree.specs.Polynomial.{Polynomial, ext, IsCanonical, AreCanonical, IsBuilt, variable_of};
-ghost use Rattle.scev_tree.specs.Tree.{polynomial_of, polynomials};
+ghost use Rattle.chrec_algebra.specs.Onto.{AreAdded, AreFirst, IsAddedIn};
+ghost use Rattle.chrec_algebra.specs.Numbers.{numbers};
+ghost use Rattle.scev_tree.specs.Polynomial.{Polynomial, Power, num, place, ext, IsCanonical, AreCanonical, IsBuilt, variable_of};
+ghost use Rattle.scev_tree.specs.Tree.{polynomial_of, polynomials, EndsZero, Tidy};
 
+use crate::chains::are_numbers;
+use crate::places::{overlay, zeros};
 use crate::sum::add_multiple;
-use arith_word::{Label, Width};
-use scev_tree::{Tree, is_zero, rank, scale_tree};
+use arith_word::{Label, Width, add, mul};
+use scev_tree::{Tree, build, is_zero, rank, scale_tree};
 use sqlite_items::Items;
 use std::alloc::{AllocError, Global};
-use std::slice;
+use std::{mem, slice};
+
+// Whether there are at least two places, the last of which isn't 0.
+fn are_tidy(ts: &[Tree]) -> bool
+    ensures tidy { result ≡ true → (1 < length ts.now) × Tidy (polynomials ts.now) }
+    ensures not { result ≡ false → (length ts.now ≤ 1) ⊎ EndsZero (polynomials ts.now) }
+{
+    match ts {
+        [_, .., last] => !is_zero(last),
+        _ => false,
+    }
+}
 
 // The canonical tree of the polynomial in this variable with these places.
-fn rebuild(counter: bool, var: Label, mut ops: Items<Tree>) -> Result<Tree, AllocError>
-    ensures { IfOk result (λ r. (M : ℕ) → 0 < M → AreCanonical M (polynomials ops) (variable_of counter var.0) → IsBuilt M (variable_of counter var.0) (polynomials ops) (polynomial_of r)) }
+fn rebuild(counter: bool, var: Label, mut ops: Items<Tree>) -> Tree
+    ensures { (M : ℕ) → 0 < M → AreCanonical M (polynomials ops) (variable_of counter var.0) → IsBuilt M (variable_of counter var.0) (polynomials ops) (polynomial_of result) }
 {
+    if are_tidy(ops.as_slice()) {
+        return Tree::Ext { counter, var, ops };
+    }
     match ops.pop() {
-        None => Ok(Tree::Num(0)),
+        None => Tree::Num(0),
         Some(last) => {
-            if is_zero(&last) {
-                return Ok(rebuild(counter, var, ops)?);
-            }
             if ops.is_empty() {
-                return Ok(last);
+                return last;
             }
-            ops.push(last)?;
-            Ok(Tree::Ext { counter, var, ops })
+            rebuild(counter, var, ops)
         }
     }
 }
@@ -55,7 +68,7 @@ fn places_in<'a>(counter: bool, var: Label, t: &'a Tree) -> Option<&'a [Tree]>
 }
 
 // Adds c * t to the place k, which is one of the places or the next.
-fn add_to_place(
+fn add_tree_to_place(
     alloc: Global,
     w: Width,
     ops: &mut Items<Tree>,
@@ -79,6 +92,55 @@ fn add_to_place(
     Ok(())
 }
 
+// The same for a number, in the memory of a number.
+#[tactic(auto, using(crate::proofs::Sides::polynomial_of_num))]
+fn add_number_to_place(
+    alloc: Global,
+    w: Width,
+    ops: &mut Items<Tree>,
+    k: usize,
+    c: u64,
+    v: u64,
+) -> Result<(), AllocError>
+    requires within { k ≤ length ops.old }
+    requires places { (x : ℕ) × AreCanonical (2 ^ w) (polynomials ops.old) x }
+    requires number { v < 2 ^ w }
+    ensures put { IfOk result (λ _. IsPut (2 ^ w) k c (num v) (polynomials ops.old) (polynomials ops.new)) }
+    ensures count { IfOk result (λ _. k < length ops.new) }
+{
+    if k < ops.len() {
+        if let Tree::Num(u) = ops.as_slice()[k] {
+            let sum = add(w, u, mul(w, c, v));
+            ops.set(k, Tree::Num(sum));
+            return Ok(());
+        }
+    }
+    add_tree_to_place(alloc, w, ops, k, c, &Tree::Num(v))?;
+    Ok(())
+}
+
+// The same, in place where both are numbers.
+#[tactic(auto, using(crate::proofs::Sides::polynomial_of_num))]
+fn add_to_place(
+    alloc: Global,
+    w: Width,
+    ops: &mut Items<Tree>,
+    k: usize,
+    c: u64,
+    t: &Tree,
+) -> Result<(), AllocError>
+    requires within { k ≤ length ops.old }
+    requires places { (x : ℕ) × AreCanonical (2 ^ w) (polynomials ops.old) x }
+    requires tree { IsCanonical (2 ^ w) (polynomial_of t.now) }
+    ensures put { IfOk result (λ _. IsPut (2 ^ w) k c (polynomial_of t.now) (polynomials ops.old) (polynomials ops.new)) }
+    ensures count { IfOk result (λ _. k < length ops.new) }
+{
+    match t {
+        Tree::Num(v) => Ok(add_number_to_place(alloc, w, ops, k, c, *v)?),
+        Tree::Ext { .. } => Ok(add_tree_to_place(alloc, w, ops, k, c, t)?),
+    }
+}
+
 // Adds c times the places `ts` to the places.
 fn add_to_places(
     alloc: Global,
@@ -96,6 +158,33 @@ fn add_to_places(
     Ok(())
 }
 
+// Adds c times the places `ts` to the places, in the memory of each.
+#[cycle(adding_onto)]
+fn add_to_each(
+    alloc: Global,
+    w: Width,
+    counter: bool,
+    var: Label,
+    out: &mut Vec<Tree>,
+    c: u64,
+    ts: &[Tree],
+) -> Result<(), AllocError>
+    requires within { length ts.now ≤ length out.old.items }
+    requires places { AreCanonical (2 ^ w) (polynomials out.old.items) (variable_of counter var.0) }
+    requires more { AreCanonical (2 ^ w) (polynomials ts.now) (variable_of counter var.0) }
+    ensures { IfOk result (λ _. AreAdded (2 ^ w) c (length ts.now) (polynomials ts.now) (polynomials out.old.items) (polynomials out.new.items)) }
+{
+    let _ = var;
+    let _ = counter;
+    for (k, t) in ts.iter().enumerate() {
+        let old = mem::replace(&mut out[k], Tree::Num(0));
+        let sum = add_onto(alloc, w, old, c, t)?;
+        out[k] = sum;
+    }
+    Ok(())
+}
+
+#[cycle(adding_onto)]
 fn add_in_places(
     alloc: Global,
     w: Width,
@@ -109,12 +198,31 @@ fn add_in_places(
     requires more { AreCanonical (2 ^ w) (polynomials ts.now) (variable_of counter var.0) }
     ensures { IfOk result (λ r. (t : Polynomial) → IsCanonical (2 ^ w) t → IsSide (variable_of counter var.0) (polynomials ts.now) t → IsAdded (2 ^ w) c (polynomial_of r) (ext (variable_of counter var.0) (polynomials ops)) t) }
 {
-    add_to_places(alloc, w, &mut ops, c, ts)?;
-    Ok(rebuild(counter, var, ops)?)
+    if are_numbers(ops.as_slice()) && are_numbers(ts) {
+        add_to_places(alloc, w, &mut ops, c, ts)?;
+        return Ok(rebuild(counter, var, ops));
+    }
+    let empty = zeros(alloc, ops.len().max(ts.len()))?;
+    let mut out = overlay(ops, empty);
+    add_to_each(alloc, w, counter, var, &mut out, c, ts)?;
+    Ok(build(counter, var, out))
+}
+
+#[tactic(auto, using(crate::proofs::Sides::polynomial_of_num))]
+fn add_to_number(alloc: Global, w: Width, u: u64, c: u64, t: &Tree) -> Result<Tree, AllocError>
+    requires number { u < 2 ^ w }
+    requires tree { IsCanonical (2 ^ w) (polynomial_of t.now) }
+    ensures { IfOk result (λ r. IsAdded (2 ^ w) c (polynomial_of r) (num u) (polynomial_of t.now)) }
+{
+    if u == 0 {
+        return Ok(scale_tree(alloc, w, t, c)?);
+    }
+    Ok(add_multiple(alloc, w, &Tree::Num(u), c, t)?)
 }
 
 /// `old + c * t` modulo 2 to the width, in the memory of `old` where its variable isn't below that
 /// of t.
+#[cycle(adding_onto)]
 #[tactic(auto, using(crate::proofs::Sides::polynomial_of_ext, crate::proofs::Sides::polynomial_of_num))]
 pub fn add_onto(alloc: Global, w: Width, old: Tree, c: u64, t: &Tree) -> Result<Tree, AllocError>
     requires old { IsCanonical (2 ^ w) (polynomial_of old) }
@@ -122,10 +230,113 @@ pub fn add_onto(alloc: Global, w: Width, old: Tree, c: u64, t: &Tree) -> Result<
     ensures { IfOk result (λ r. IsAdded (2 ^ w) c (polynomial_of r) (polynomial_of old) (polynomial_of t.now)) }
 {
     match old {
-        Tree::Num(u) => Ok(add_multiple(alloc, w, &Tree::Num(u), c, t)?),
+        Tree::Num(u) => Ok(add_to_number(alloc, w, u, c, t)?),
         Tree::Ext { counter, var, ops } => match places_in(counter, var, t) {
             Some(ts) => Ok(add_in_places(alloc, w, counter, var, ops, c, ts)?),
             None => Ok(add_multiple(alloc, w, &Tree::Ext { counter, var, ops }, c, t)?),
         },
+    }
+}
+
+/// `old + c * t`, where t is moved if nothing is there.
+pub fn settle(alloc: Global, w: Width, old: Tree, c: u64, t: Tree) -> Result<Tree, AllocError>
+    requires old { IsCanonical (2 ^ w) (polynomial_of old) }
+    requires tree { IsCanonical (2 ^ w) (polynomial_of t) }
+    ensures { IfOk result (λ r. IsAdded (2 ^ w) c (polynomial_of r) (polynomial_of old) (polynomial_of t)) }
+{
+    if c == 1 && is_zero(&old) {
+        return Ok(t);
+    }
+    Ok(add_onto(alloc, w, old, c, &t)?)
+}
+
+// Adds c times the first `count` of the numbers to the places.
+fn add_numbers(
+    alloc: Global,
+    w: Width,
+    ops: &mut Items<Tree>,
+    c: u64,
+    vs: &[u64; 18],
+    count: usize,
+) -> Result<(), AllocError>
+    requires count { count ≤ 18 }
+    requires places { (x : ℕ) × AreCanonical (2 ^ w) (polynomials ops.old) x × AreCanonical (2 ^ w) (numbers vs.now) x }
+    ensures { IfOk result (λ _. AreAdded (2 ^ w) c count (numbers vs.now) (polynomials ops.old) (polynomials ops.new)) }
+{
+    for k in 0..count {
+        add_number_to_place(alloc, w, ops, k, c, vs[k])?;
+    }
+    Ok(())
+}
+
+// The first `count` of the numbers as trees.
+fn number_trees(alloc: Global, vs: &[u64; 18], count: usize) -> Result<Vec<Tree>, AllocError>
+    requires count { count ≤ 18 }
+    ensures { IfOk result (λ r. AreFirst count (polynomials r.items) (numbers vs.now)) }
+{
+    let mut out = Vec::with_capacity(alloc, count)?;
+    for k in 0..count {
+        out.push(Tree::Num(vs[k]))?;
+    }
+    Ok(out)
+}
+
+// The same where the tree is in another variable, or a number.
+fn settle_numbers(
+    alloc: Global,
+    w: Width,
+    old: Tree,
+    c: u64,
+    counter: bool,
+    var: Label,
+    vs: &[u64; 18],
+    count: usize,
+) -> Result<Tree, AllocError>
+    requires old { IsCanonical (2 ^ w) (polynomial_of old) }
+    requires numbers { AreCanonical (2 ^ w) (numbers vs.now) (variable_of counter var.0) }
+    requires count { count ≤ 18 }
+    requires rest { (k : ℕ) (m : List Power) → count ≤ k → place (numbers vs.now) k m ≡ 0 }
+    ensures { IfOk result (λ r. IsAddedIn (2 ^ w) c (variable_of counter var.0) (polynomial_of r) (polynomial_of old) (numbers vs.now)) }
+{
+    let places = number_trees(alloc, vs, count)?;
+    let chain = build(counter, var, places);
+    Ok(settle(alloc, w, old, c, chain)?)
+}
+
+/// Adds c times the polynomial in this variable whose places are the first `count` of the numbers.
+pub fn add_chain(
+    alloc: Global,
+    w: Width,
+    old: Tree,
+    c: u64,
+    counter: bool,
+    var: Label,
+    vs: &[u64; 18],
+    count: usize,
+) -> Result<Tree, AllocError>
+    requires old { IsCanonical (2 ^ w) (polynomial_of old) }
+    requires numbers { AreCanonical (2 ^ w) (numbers vs.now) (variable_of counter var.0) }
+    requires count { count ≤ 18 }
+    requires rest { (k : ℕ) (m : List Power) → count ≤ k → place (numbers vs.now) k m ≡ 0 }
+    ensures { IfOk result (λ r. IsAddedIn (2 ^ w) c (variable_of counter var.0) (polynomial_of r) (polynomial_of old) (numbers vs.now)) }
+{
+    match old {
+        Tree::Num(u) => Ok(settle_numbers(alloc, w, Tree::Num(u), c, counter, var, vs, count)?),
+        Tree::Ext {
+            counter: other,
+            var: to,
+            mut ops,
+        } => {
+            if rank(other, to) == rank(counter, var) {
+                add_numbers(alloc, w, &mut ops, c, vs, count)?;
+                return Ok(rebuild(counter, var, ops));
+            }
+            let old = Tree::Ext {
+                counter: other,
+                var: to,
+                ops,
+            };
+            Ok(settle_numbers(alloc, w, old, c, counter, var, vs, count)?)
+        }
     }
 }

@@ -137,6 +137,67 @@ fn widened(alloc: Global, sum: Expr, label: u32) -> Result<Expr, AllocError> {
     Ok(add(alloc, &sum, &x)?)
 }
 
+// The sum of c times each product of two expressions of one width.
+fn sum_of(alloc: Global, w: Width, terms: &[(u64, &Expr, &Expr)]) -> Result<Expr, AllocError> {
+    let mut sum = num(w, 0);
+    for (c, a, b) in terms {
+        if a.w == b.w {
+            let term = scale(alloc, &times(alloc, a, b)?, *c)?;
+            if sum.w == term.w {
+                sum = add(alloc, &sum, &term)?;
+            }
+        }
+    }
+    Ok(sum)
+}
+
+#[test]
+fn products_in_several_variables(rt: HostRuntime) -> Result<(), Fail> {
+    let alloc = rt.alloc();
+    let Some(w) = Width::new(16) else {
+        return Ok(());
+    };
+    let one = num(w, 1);
+    let (x, y) = (sym(alloc, w, Label(5))?, sym(alloc, w, Label(8))?);
+    let n = chain(alloc, w, Label(6), &[0, 1])?;
+    let pairs = chain(alloc, w, Label(6), &[0, 0, 1])?;
+    let m = chain(alloc, w, Label(7), &[0, 1])?;
+    let triangle = chain(alloc, w, Label(7), &[0, 0, 1])?;
+    let a = sum_of(
+        alloc,
+        w,
+        &[
+            (3, &one, &one),
+            (5, &x, &one),
+            (7, &x, &n),
+            (2, &triangle, &n),
+            (1, &y, &m),
+        ],
+    )?;
+    let b = sum_of(
+        alloc,
+        w,
+        &[
+            (1, &one, &one),
+            (9, &y, &one),
+            (4, &triangle, &one),
+            (6, &n, &y),
+            (1, &x, &pairs),
+        ],
+    )?;
+    // The number of monomials, the degree and the value are from Python.
+    let product = sum_of(alloc, w, &[(1, &a, &b)])?;
+    assert_eq!(rt; (size(&product), degree(&product)), (27, 6));
+    assert!(rt; is_within(&product));
+    let symbols = [(Label(5), 11), (Label(8), 13)];
+    assert_eq!(rt;
+        value(&product, &symbols, &[(Label(6), 6), (Label(7), 9)]),
+        39251
+    );
+    assert!(rt; same(&product, &sum_of(alloc, w, &[(1, &b, &a)])?));
+    Ok(())
+}
+
 struct Row {
     bits: u32,
     left: [u64; 3],

@@ -1,23 +1,40 @@
-use Rattle.std.proofs.Common.{◌+◌, ◌*◌, ◌≡◌, vec_len, length, ◌^◌}
-use Rattle.scev_tree.specs.Tree.{polynomial_of, polynomials, weight, weights}
-use Rattle.chrec_algebra.specs.Product.{AreRows, IsRow}
+use Rattle.std.proofs.Common.{◌≡◌, ◌+◌, ◌-◌, ◌*◌, ◌^◌, vec_len, length, max, true}
+use Rattle.scev_tree.specs.Tree.{polynomial_of, polynomials}
 use Rattle.scev_tree.specs.Polynomial.{variable_of}
+use Rattle.chrec_algebra.specs.Places.{AreRisen}
+use Rattle.chrec_algebra.specs.Product.{AreRows, IsRow}
+use Rattle.chrec_algebra.proofs.Values.{height}
 use Rattle.chrec_algebra.proofs.product.+multiplying.Given as goal
 
-abbrev pub decreases-mul_trees : goal.decreases-mul_trees
-decreases-mul_trees l = 4 * (weight (polynomial_of l.a.now) + weight (polynomial_of l.b.now)) + 1
+abbrev pub decreases-add_product : goal.decreases-add_product
+decreases-add_product l = 8 * max (height (polynomial_of l.a.now)) (height (polynomial_of l.b.now)) + 1
 
-abbrev pub decreases-mul_nested : goal.decreases-mul_nested
-decreases-mul_nested l = 4 * (weight (polynomial_of l.a.now) + weight (polynomial_of l.b.now))
+abbrev pub decreases-add_nested_product : goal.decreases-add_nested_product
+decreases-add_nested_product l = 8 * max (height (polynomial_of l.a.now)) (height (polynomial_of l.b.now))
 
-abbrev pub decreases-mul_places : goal.decreases-mul_places
-decreases-mul_places l = 4 * (weights (polynomials l.ps.now) + weights (polynomials l.qs.now)) + 3
+abbrev pub decreases-add_product_in : goal.decreases-add_product_in
+decreases-add_product_in l = 8 * variable_of l.counter l.var.0 + 6
 
-abbrev pub decreases-mul_row : goal.decreases-mul_row
-decreases-mul_row l = 4 * (weight (polynomial_of l.p.now) + weights (polynomials l.qs.now)) + 2
+abbrev pub decreases-add_rows : goal.decreases-add_rows
+decreases-add_rows l = 8 * variable_of l.counter l.var.0 + 5
 
-abbrev pub invariant-mul_places-loop-i : goal.invariant-mul_places-loop-i
-invariant-mul_places-loop-i l = (vec_len l.out ≡ length l.ps + length l.qs) × AreRows (2 ^ l.w) (variable_of l.counter l.var.0) l.i (polynomials l.out.items) (polynomials l.ps) (polynomials l.qs)
+abbrev pub decreases-add_plain_rows : goal.decreases-add_plain_rows
+decreases-add_plain_rows l = 8 * variable_of l.counter l.var.0 + 4
 
-abbrev pub invariant-mul_row-loop-j : goal.invariant-mul_row-loop-j
-invariant-mul_row-loop-j l = (vec_len l.out ≡ vec_len l.fn.out) × IsRow (2 ^ l.w) (variable_of l.counter l.var.0) l.i l.j (polynomial_of l.p) (polynomials l.qs) (polynomials l.fn.out.items) (polynomials l.out.items)
+abbrev pub decreases-add_rows_of_counter : goal.decreases-add_rows_of_counter
+decreases-add_rows_of_counter l = 8 * variable_of true l.var.0 + 4
+
+abbrev pub decreases-add_row : goal.decreases-add_row
+decreases-add_row l = 8 * variable_of l.counter l.var.0 + 3
+
+abbrev pub decreases-put_product : goal.decreases-put_product
+decreases-put_product l = 8 * max (height (polynomial_of l.p.now)) (height (polynomial_of l.q.now)) + 2
+
+abbrev pub invariant-add_plain_rows-loop-i : goal.invariant-add_plain_rows-loop-i
+invariant-add_plain_rows-loop-i l = (vec_len l.out ≡ vec_len l.fn.out) × AreRows (2 ^ l.w) l.c (variable_of l.counter l.var.0) l.i (polynomials l.ps) (polynomials l.qs) (polynomials l.fn.out.items) (polynomials l.out.items)
+
+abbrev pub invariant-add_rows_of_counter-loop-i : goal.invariant-add_rows_of_counter-loop-i
+invariant-add_rows_of_counter-loop-i l = (vec_len l.us ≡ length l.qs) × (vec_len l.out ≡ vec_len l.fn.out) × AreRisen (2 ^ l.w) (variable_of true l.var.0) (l.i - 1) (polynomials l.us.items) (polynomials l.qs) × AreRows (2 ^ l.w) l.c (variable_of true l.var.0) l.i (polynomials l.ps) (polynomials l.qs) (polynomials l.fn.out.items) (polynomials l.out.items)
+
+abbrev pub invariant-add_row-loop-j : goal.invariant-add_row-loop-j
+invariant-add_row-loop-j l = (vec_len l.out ≡ vec_len l.fn.out) × IsRow (2 ^ l.w) l.c (variable_of l.counter l.var.0) l.i l.j (polynomial_of l.p) (polynomials l.qs) (polynomials l.fn.out.items) (polynomials l.out.items)
