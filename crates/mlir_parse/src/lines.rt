@@ -4,7 +4,7 @@ ghost use Rattle.mlir_ir.specs.declared.syntax.Form.{Form};
 ghost use Rattle.mlir_parse.specs.Seen.{seen, AreLines};
 
 use crate::rule::Rule::{Line, Nothing, One};
-use crate::rule::{Rule, with_sets};
+use crate::rule::{Rule, put_sets};
 use mlir_ir::{Form, Terminal};
 use std::alloc::{AllocError, Global};
 
@@ -549,22 +549,38 @@ fn flags_line(alloc: Global) -> Result<Rule, AllocError>
 pub fn lines(alloc: Global) -> Result<Vec<Rule>, AllocError>
     ensures { IfOk result (λ rules. AreLines rules.items) }
 {
-    let whole_rule = with_sets(alloc, &whole_line(alloc)?)?;
-    let func_rule = with_sets(alloc, &func_line(alloc)?)?;
-    let params_rule = with_sets(alloc, &params_line(alloc)?)?;
-    let types_rule = with_sets(alloc, &types_line(alloc)?)?;
-    let results_rule = with_sets(alloc, &results_line(alloc)?)?;
-    let type_name_rule = with_sets(alloc, &type_name_line(alloc)?)?;
-    let body_rule = with_sets(alloc, &body_line(alloc)?)?;
-    let ends_rule = with_sets(alloc, &ends_line(alloc)?)?;
-    let uses_rule = with_sets(alloc, &uses_line(alloc)?)?;
-    let use_rule = with_sets(alloc, &use_line(alloc)?)?;
-    let op_rule = with_sets(alloc, &op_line(alloc)?)?;
-    let pack_rule = with_sets(alloc, &pack_line(alloc)?)?;
-    let kind_rule = with_sets(alloc, &kind_line(alloc)?)?;
-    let inits_rule = with_sets(alloc, &inits_line(alloc)?)?;
-    let region_rule = with_sets(alloc, &region_line(alloc)?)?;
-    let flags_rule = with_sets(alloc, &flags_line(alloc)?)?;
+    let mut whole_rule = whole_line(alloc)?;
+    put_sets(&mut whole_rule);
+    let mut func_rule = func_line(alloc)?;
+    put_sets(&mut func_rule);
+    let mut params_rule = params_line(alloc)?;
+    put_sets(&mut params_rule);
+    let mut types_rule = types_line(alloc)?;
+    put_sets(&mut types_rule);
+    let mut results_rule = results_line(alloc)?;
+    put_sets(&mut results_rule);
+    let mut type_name_rule = type_name_line(alloc)?;
+    put_sets(&mut type_name_rule);
+    let mut body_rule = body_line(alloc)?;
+    put_sets(&mut body_rule);
+    let mut ends_rule = ends_line(alloc)?;
+    put_sets(&mut ends_rule);
+    let mut uses_rule = uses_line(alloc)?;
+    put_sets(&mut uses_rule);
+    let mut use_rule = use_line(alloc)?;
+    put_sets(&mut use_rule);
+    let mut op_rule = op_line(alloc)?;
+    put_sets(&mut op_rule);
+    let mut pack_rule = pack_line(alloc)?;
+    put_sets(&mut pack_rule);
+    let mut kind_rule = kind_line(alloc)?;
+    put_sets(&mut kind_rule);
+    let mut inits_rule = inits_line(alloc)?;
+    put_sets(&mut inits_rule);
+    let mut region_rule = region_line(alloc)?;
+    put_sets(&mut region_rule);
+    let mut flags_rule = flags_line(alloc)?;
+    put_sets(&mut flags_rule);
     let mut rules = Vec::new(alloc);
     rules.push(Nothing)?;
     rules.push(whole_rule)?;

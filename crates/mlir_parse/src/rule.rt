@@ -244,33 +244,25 @@ fn first_set(rule: &Rule) -> u64
     }
 }
 
-/// The same rule, with its sets.
-pub fn with_sets(alloc: Global, rule: &Rule) -> Result<Rule, AllocError>
-    ensures { IfOk result (λ made. Stands made (seen rule.now)) }
+/// Puts the sets into the rule, from what is inside on.
+pub fn put_sets(rule: &mut Rule)
+    ensures { Stands rule.new (seen rule.old) }
 {
     match rule {
-        Rule::Nothing => Ok(Rule::Nothing),
-        Rule::One(terminal) => Ok(Rule::One(*terminal)),
-        Rule::Line(form) => Ok(Rule::Line(*form)),
+        Rule::Nothing | Rule::One(_) | Rule::Line(_) => {}
         Rule::Both(a, b) => {
-            let first = with_sets(alloc, a)?;
-            let second = with_sets(alloc, b)?;
-            Ok(Rule::Both(Box::new(alloc, first)?, Box::new(alloc, second)?))
+            put_sets(a);
+            put_sets(b);
         }
-        Rule::Either(_, a, b) => {
-            let set = first_set(a);
-            let first = with_sets(alloc, a)?;
-            let second = with_sets(alloc, b)?;
-            Ok(Rule::Either(set, Box::new(alloc, first)?, Box::new(alloc, second)?))
+        Rule::Either(set, a, b) => {
+            put_sets(a);
+            put_sets(b);
+            *set = first_set(a);
         }
-        Rule::Many(_, a) => {
-            let set = first_set(a);
-            let once = with_sets(alloc, a)?;
-            Ok(Rule::Many(set, Box::new(alloc, once)?))
+        Rule::Many(set, a) => {
+            put_sets(a);
+            *set = first_set(a);
         }
-        Rule::Region(a) => {
-            let inside = with_sets(alloc, a)?;
-            Ok(Rule::Region(Box::new(alloc, inside)?))
-        }
+        Rule::Region(a) => put_sets(a),
     }
 }
