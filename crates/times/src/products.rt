@@ -166,7 +166,7 @@ fn show_both<R: Print + Clock + AllocGlobal>(
 }
 
 /// Products of expressions of 64 bits in one to six variables, and of 63 symbols.
-pub fn run<R: Print + Clock + AllocGlobal>(rt: &R) -> anyhow::Result<()> {
+pub(super) fn run<R: Print + Clock + AllocGlobal>(rt: &R) -> anyhow::Result<()> {
     let Some(w) = Width::new(64) else {
         return Ok(());
     };

@@ -85,7 +85,7 @@ fn show<R: Print + Clock + AllocGlobal>(rt: &R, size: usize) -> anyhow::Result<(
 }
 
 /// Texts of 1 KiB to 4 MiB.
-pub fn run<R: Print + Clock + AllocGlobal>(rt: &R) -> anyhow::Result<()> {
+pub(super) fn run<R: Print + Clock + AllocGlobal>(rt: &R) -> anyhow::Result<()> {
     for size in [1 << 10, 1 << 20, 2 << 20, 4 << 20] {
         show(rt, size)?;
     }
