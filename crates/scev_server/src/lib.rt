@@ -11,8 +11,6 @@ mod session;
 mod small;
 mod standard;
 mod status;
-#[cfg(test)]
-mod tables;
 mod top;
 mod whole;
 

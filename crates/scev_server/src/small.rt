@@ -10,8 +10,6 @@ mod guess;
 mod leaf;
 mod print;
 mod scope;
-#[cfg(test)]
-mod tests;
 mod words;
 
 use crate::input::Input;
