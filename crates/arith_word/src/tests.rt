@@ -287,3 +287,22 @@ fn texts_are_shown_with_their_bytes(rt: HostRuntime) -> Result<(), Fail> {
     assert_eq!(rt; shown.as_str(), "Some(Text { inner: \"%x\" })");
     Ok(())
 }
+
+#[test]
+fn labels_are_made_of_their_parts(rt: HostRuntime) {
+    let rows = [
+        (0, 0, 0, 0),
+        (0, 1, 0, 16384),
+        (3, 2, 1, 50364417),
+        (255, 1023, 16383, u32::MAX),
+    ];
+    for (func, item, index, number) in rows {
+        assert!(rt; item < 1024 && index < 16384);
+        let label = Label::new(func, item, index);
+        assert_eq!(rt; label, Label(number));
+        assert_eq!(rt;
+            (label.func(), label.item(), label.index()),
+            (func, item, index)
+        );
+    }
+}
