@@ -8,7 +8,7 @@ use Rattle.scev_tree.specs.Polynomial.{Polynomial, Polynomials, num, ext, Power,
 use Rattle.scev_tree.specs.Tree.{polynomials, polynomial_of, EndsZero, Tidy}
 use Rattle.scev_tree.proofs.Ends.{snoc_below, snoc_last, canon_snoc, past_list, zero_coeff, trim_first, trim_last, build_from, build_one}
 use Rattle.scev_tree.proofs.Places.{fits_place, canon_of, under_of}
-use Rattle.chrec_algebra.specs.Align.{IsSide}
+use Rattle.scev_tree.specs.Side.{IsSide}
 use Rattle.chrec_algebra.specs.Product.{IsAdded, IsPut}
 use Rattle.chrec_algebra.specs.Onto.{AreAdded, AreFirst, IsAddedIn}
 use Rattle.chrec_algebra.specs.Numbers.{numbers}

@@ -1,12 +1,14 @@
 pub mod Products
 pub mod Values
+pub mod Splitting
+pub mod UniqueResults
+pub mod ValuesOfLines
 pub mod Replacements
 pub mod ValuesAt
 pub mod Additions
 pub mod Sides
 pub mod Parts
 pub mod Degrees
-pub mod Binomials
 pub mod Differences
 pub mod Valuing
 pub mod Entering

@@ -59,6 +59,9 @@ put_is M k c ts us o r t h eo e a = rw e (record {
 pub even_key : (l : ℕ) → variable_of true l % 2 ≡ 0
 even_key l = omega arith
 
+pub even_of : (b : Bool) (l : ℕ) → b ≡ true → variable_of b l % 2 ≡ 0
+even_of b l e = subst (λ c. variable_of c l % 2 ≡ 0) (sym e) (even_key l)
+
 pub odd_key : (l : ℕ) → variable_of false l % 2 ≡ 0 → ⊥
 odd_key l h = omega arith
 

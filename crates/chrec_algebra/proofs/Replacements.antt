@@ -2,7 +2,7 @@
 use Rattle.std.proofs.Common.{◌≡◌, ℕ, zero, suc, ◌+◌, ◌*◌, ◌%◌, ◌<◌, ◌≤◌, inl, inr, List, [], ◌∷◌, refl, ap, ◌∙◌, sym, subst, arith, length, get_or}
 use Rattle.std.proofs.lemmas.Bool.{eq-eqb, ne_eqb, cases_order, cases_lt, cases_eq, lt-ltb, le-ltb}
 use Rattle.std.proofs.Math.Nat.{mod-eq_of_lt, mod-mod}
-use Rattle.scev_tree.specs.Value.{binomial}
+use Rattle.arith_word.specs.Binomial.{binomial}
 use Rattle.scev_tree.specs.declared.tree.Tree.{Tree, Num}
 use Rattle.scev_tree.specs.Polynomial.{Polynomial, Polynomials, num, ext, none, more, Power, power, coefficient, place, IsMonomial, Under, IsCanonical, AreCanonical, IsBuilt}
 use Rattle.chrec_algebra.specs.Product.{IsAdded, sum_to}
@@ -27,13 +27,13 @@ unfolding binomial
 first zero = refl
 first (suc n) = refl
 
-insert_none : (x : ℕ) (m : List Power) → insert x 0 m ≡ m
+pub insert_none : (x : ℕ) (m : List Power) → insert x 0 m ≡ m
 unfolding insert
 insert_none x [] = refl
 insert_none x (q ∷ m) = elim (cases_lt x q.var) [ inl lt ↦ rw (lt-ltb x q.var lt) (ap (λ (n : List Power). q ∷ n) (insert_none x m)) | inr ge ↦ rw (le-ltb x q.var ge) refl ]
 
 -- a monomial with x, or a greater variable, in front
-insert_above : (M x k : ℕ) (p : Polynomial) (m : List Power) → IsCanonical M p → Under p x → coefficient p (insert x (suc k) m) ≡ 0
+pub insert_above : (M x k : ℕ) (p : Polynomial) (m : List Power) → IsCanonical M p → Under p x → coefficient p (insert x (suc k) m) ≡ 0
 unfolding insert
 insert_above M x k p [] c u = above M p x (power x (suc k)) [] c u (omega arith)
 insert_above M x k p (q ∷ m) c u = elim (cases_lt x q.var) [
@@ -45,7 +45,7 @@ pub var_at_least : (x top : ℕ) (m : List Power) → IsMonomial m top → Has x
 var_at_least x top [] is h = absurd h
 var_at_least x top (q ∷ m) is h = elim h [ inl e ↦ omega (arith, is.0) | inr g ↦ (let l = var_at_least x q.var m is.2 g in omega (arith, is.0)) ]
 
-has_above : (M x top : ℕ) (p : Polynomial) (m : List Power) → IsCanonical M p → Under p x → IsMonomial m top → Has x m → coefficient p m ≡ 0
+pub has_above : (M x top : ℕ) (p : Polynomial) (m : List Power) → IsCanonical M p → Under p x → IsMonomial m top → Has x m → coefficient p m ≡ 0
 has_above M x top p [] c u is h = absurd h
 has_above M x top p (q ∷ m) c u is h = above M p x q m c u (elim h [ inl e ↦ omega arith | inr g ↦ (let l = var_at_least x q.var m is.2 g in omega arith) ])
 
@@ -77,11 +77,11 @@ pub insert_high : (x k : ℕ) (q : Power) (m : List Power) → x < q.var → ins
 unfolding insert
 insert_high x k q m lt = rw (lt-ltb x q.var lt) refl
 
-under_later : (r : Polynomial) (x y : ℕ) → Under r x → x < y → Under r y
+pub under_later : (r : Polynomial) (x y : ℕ) → Under r x → x < y → Under r y
 under_later (num v) x y u l = tt
 under_later (ext z ps) x y u l = omega arith
 
-above_places : (M x : ℕ) (ps : Polynomials) (q : Power) (n : List Power) → AreCanonical M ps x → x < q.var → coefficient (ext x ps) (q ∷ n) ≡ 0
+pub above_places : (M x : ℕ) (ps : Polynomials) (q : Power) (n : List Power) → AreCanonical M ps x → x < q.var → coefficient (ext x ps) (q ∷ n) ≡ 0
 above_places M x none q n c lt = rw (ne_eqb q.var x (λ e. omega arith)) refl
 above_places M x (more p ps) q n c lt = rw (ne_eqb q.var x (λ e. omega arith)) (above M p x q n c.1 c.0 (omega arith))
 
@@ -163,21 +163,21 @@ module _ (M x n y : ℕ) (some : 0 < M) (lt : x < y) where
   place_gone (more r rs) (more p ps) (suc i) m top e is h = place_gone rs ps i m top e.1 is h
 
   -- a monomial that y does not begin stays one
-  low_insert : (ps : Polynomials) (k : ℕ) (m : List Power) → ((q : Power) (w : List Power) → m ≡ q ∷ w → q.var ≡ y → ⊥) → coefficient (ext y ps) (insert x k m) ≡ place ps 0 (insert x k m)
+  pub low_insert : (ps : Polynomials) (k : ℕ) (m : List Power) → ((q : Power) (w : List Power) → m ≡ q ∷ w → q.var ≡ y → ⊥) → coefficient (ext y ps) (insert x k m) ≡ place ps 0 (insert x k m)
   unfolding insert
   low_insert ps zero [] ne = refl
   low_insert ps (suc k) [] ne = rw (ne_eqb x y (λ e. omega arith)) refl
   low_insert ps zero (q ∷ m) ne = elim (cases_lt x q.var) [ inl l ↦ rw (lt-ltb x q.var l, ne_eqb q.var y (ne q m refl)) refl | inr g ↦ rw (le-ltb x q.var g, ne_eqb q.var y (ne q m refl)) refl ]
   low_insert ps (suc k) (q ∷ m) ne = elim (cases_lt x q.var) [ inl l ↦ rw (lt-ltb x q.var l, ne_eqb q.var y (ne q m refl)) refl | inr g ↦ rw (le-ltb x q.var g, ne_eqb x y (λ e. omega arith)) refl ]
 
-  not_front : (m : List Power) (top : ℕ) → IsMonomial m top → top ≤ y → (q : Power) (w : List Power) → m ≡ q ∷ w → q.var ≡ y → ⊥
+  pub not_front : (m : List Power) (top : ℕ) → IsMonomial m top → top ≤ y → (q : Power) (w : List Power) → m ≡ q ∷ w → q.var ≡ y → ⊥
   not_front [] top is le q w e v = empty e
     where
       empty : [] ≡ q ∷ w → ⊥
       empty e = cc
   not_front (p ∷ m) top is le q w e v = let s : p ≡ q = cc in let t : p.var ≡ q.var = ap (λ (z : Power). z.var) s in omega (arith, is.0)
 
-  front_other : (q : Power) (m : List Power) → (q.var ≡ y → ⊥) → (p : Power) (w : List Power) → (q ∷ m) ≡ p ∷ w → p.var ≡ y → ⊥
+  pub front_other : (q : Power) (m : List Power) → (q.var ≡ y → ⊥) → (p : Power) (w : List Power) → (q ∷ m) ≡ p ∷ w → p.var ≡ y → ⊥
   front_other q m ne p w e v = let s : q ≡ p = cc in ne (ap (λ (z : Power). z.var) s ∙ v)
 
   up_at : (rs ps : Polynomials) → Each (IsAt M x n) rs ps → (m : List Power) (top : ℕ) → IsMonomial m top → (Has x m → ⊥) → coefficient (ext y rs) m ≡ sum_to 9 (λ k. binomial n k * coefficient (ext y ps) (insert x k m)) % M

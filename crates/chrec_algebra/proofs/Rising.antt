@@ -4,7 +4,8 @@ use Rattle.std.specs.Prelude.{◌==◌, if◌then◌else◌}
 use Rattle.std.proofs.lemmas.Bool.{agree_below, agree_below_at, eqb-true, eq-eqb, ne_eqb, cases_lt, cases_eq}
 use Rattle.std.proofs.Math.Nat.{mod-eq_of_lt, mod-mod, add-mod}
 use Rattle.std.proofs.Math.ListN.{set}
-use Rattle.scev_binom.specs.Binomial.{binomial, product_coefficient}
+use Rattle.arith_word.specs.Binomial.{binomial}
+use Rattle.scev_binom.specs.Binomial.{product_coefficient}
 use Rattle.scev_tree.specs.declared.tree.Tree.{Tree}
 use Rattle.scev_tree.specs.Polynomial.{Polynomial, Polynomials, Power, with_power, coefficient, place, IsMonomial, Under, IsCanonical, AreCanonical}
 use Rattle.scev_tree.specs.Tree.{len}

@@ -3,7 +3,7 @@ use Rattle.std.proofs.Common.{◌≡◌, ℕ, suc, ◌+◌, ◌-◌, ◌*◌, �
 use Rattle.std.proofs.lemmas.Bool.{eq-eqb, ne_eqb, cases_lt, cases_eq}
 use Rattle.std.proofs.Math.Nat.{mod-eq_of_lt, mod-mod}
 use Rattle.std.proofs.Math.ListN.{set}
-use Rattle.scev_binom.specs.Binomial.{binomial}
+use Rattle.arith_word.specs.Binomial.{binomial}
 use Rattle.scev_tree.specs.declared.tree.Tree.{Tree}
 use Rattle.scev_tree.specs.Polynomial.{Polynomial, Polynomials, num, ext, Power, coefficient, place, IsMonomial, Under, IsCanonical, AreCanonical, IsBuilt, variable_of}
 use Rattle.scev_tree.specs.Tree.{polynomials, polynomial_of, len}
@@ -203,8 +203,7 @@ plain_rows_step M c i p ps qs old mid new counter l some plain lt lp lq ep cq a 
     let r' : IsRow M c x i (len (polynomials qs)) (polynomial_of p) (polynomials qs) mid new = subst (λ n. IsRow M c x i n (polynomial_of p) (polynomials qs) mid new) (sym (len_is qs)) r in
     rows_step M c x i p ps (polynomials qs) (polynomials qs) old mid new lt ep (gives_plain M i (polynomial_of p) ps qs counter l some plain lt lp lq cq) a r'
 
-pub counter_rows_step : (M c i n l : ℕ) (p : Tree) (ps : List Tree) (us qs old mid new : Polynomials) → i < length ps → length ps ≤ 9 → n ≡ len qs → len qs ≤ 9 → p ≡ get_or ps i p → AreRisen M (variable_of true l) i us qs → AreRows M c (variable_of true l) i (polynomials ps) qs old mid → IsRow M c (variable_of true l) i n (polynomial_of p) us mid new → AreRows M c (variable_of true l) (i + 1) (polynomials ps) qs old new
-counter_rows_step M c i n l p ps us qs old mid new lt lp en lq ep risen a r =
-    let x = variable_of true l in
+pub counter_rows_step : (M c x i n : ℕ) (p : Tree) (ps : List Tree) (us qs old mid new : Polynomials) → x % 2 ≡ 0 → i < length ps → length ps ≤ 9 → n ≡ len qs → len qs ≤ 9 → p ≡ get_or ps i p → AreRisen M x i us qs → AreRows M c x i (polynomials ps) qs old mid → IsRow M c x i n (polynomial_of p) us mid new → AreRows M c x (i + 1) (polynomials ps) qs old new
+counter_rows_step M c x i n p ps us qs old mid new even lt lp en lq ep risen a r =
     let r' : IsRow M c x i (len qs) (polynomial_of p) us mid new = subst (λ n. IsRow M c x i n (polynomial_of p) us mid new) en r in
-    rows_step M c x i p ps us qs old mid new lt ep (gives_counter M x i (polynomial_of p) us qs (even_key l) (omega arith) lq risen) a r'
+    rows_step M c x i p ps us qs old mid new lt ep (gives_counter M x i (polynomial_of p) us qs even (omega arith) lq risen) a r'

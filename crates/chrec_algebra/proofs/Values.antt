@@ -6,9 +6,7 @@ use Rattle.std.proofs.lemmas.Nat.{pow-add}
 use Rattle.std.proofs.Math.Nat.{pow-zero}
 use Rattle.scev_binom.proofs.Products.{total, products}
 use Rattle.scev_tree.proofs.Places.{past_end, high_place}
-use Rattle.scev_tree.specs.Value.{binomial}
-use Rattle.scev_binom.specs.Binomial.{binomial as choice}
-use Rattle.chrec_algebra.proofs.Binomials.{same}
+use Rattle.arith_word.specs.Binomial.{binomial}
 use Rattle.scev_binom.specs.Binomial.{product_coefficient}
 use Rattle.scev_tree.specs.Polynomial.{Polynomial, Polynomials, num, ext, none, more, Power, power, coefficient, place, IsMonomial, Under, IsCanonical, AreCanonical, IsScaled}
 use Rattle.chrec_algebra.specs.Sum.{IsSum}
@@ -113,15 +111,10 @@ worth_zero env x = elim (cases_eq (x % 2) 0) [ inl e ↦ rw (eq-eqb (x % 2) 0 e)
 totals : (f : ℕ → ℕ) (n top : ℕ) → total f n top ≡ sum_to top (λ k. f k * binomial n k)
 unfolding sum_to
 totals f n zero = refl
-totals f n (suc top) =
-    let e = totals f n top in
-    let p : f top * choice n top ≡ f top * binomial n top = ap (λ z. f top * z) (same n top) in
-    omega arith
+totals f n (suc top) = let e = totals f n top in omega arith
 
 product_of : (n i j : ℕ) → binomial n i * binomial n j ≡ total (product_coefficient i j) n (i + j + 1)
-product_of n i j =
-    let e : binomial n i * binomial n j ≡ choice n i * choice n j = rw (same n i, same n j) refl in
-    e ∙ products n i j
+product_of n i j = products n i j
 
 worth_counter : (env : ℕ → ℕ) (x j : ℕ) → x % 2 ≡ 0 → worth env x j ≡ binomial (env x) j
 unfolding worth

@@ -2,7 +2,7 @@
 use Rattle.std.proofs.Common.{◌≡◌, ℕ, zero, suc, ◌+◌, ◌*◌, ◌%◌, ◌<◌, ◌≤◌, inl, inr, List, [], ◌∷◌, refl, ap, ◌∙◌, sym, subst, arith}
 use Rattle.std.proofs.lemmas.Bool.{cases_lt, cases_eq, lt-ltb, le-ltb}
 use Rattle.std.proofs.Math.Nat.{mod-mod}
-use Rattle.scev_tree.specs.Value.{binomial}
+use Rattle.arith_word.specs.Binomial.{binomial}
 use Rattle.scev_tree.specs.Polynomial.{Polynomial, Polynomials, num, ext, none, more, Power, power, coefficient, IsMonomial, IsCanonical}
 use Rattle.chrec_algebra.specs.Product.{Narrow, NarrowAll, sum_to}
 use Rattle.scev_tree.specs.Polynomial.{with_power}

@@ -7,7 +7,8 @@ use Rattle.std.proofs.lemmas.Nat.{mul-mod_first}
 use Rattle.scev_tree.specs.declared.tree.Tree.{Tree}
 use Rattle.scev_tree.specs.Polynomial.{Polynomial, Polynomials, num, ext, variable_of}
 use Rattle.scev_tree.specs.Tree.{polynomial_of, polynomials}
-use Rattle.scev_tree.specs.Value.{binomial, worth, value, values, numbers}
+use Rattle.arith_word.specs.Binomial.{binomial}
+use Rattle.scev_tree.specs.Value.{worth, value, values, numbers}
 use Rattle.scev_tree.proofs.Ends.{take_snoc}
 use Rattle.chrec_algebra.proofs.Products.{add_same, mul_same}
 

@@ -7,3 +7,4 @@ pub mod Entries
 pub mod Numbers
 pub mod Onto
 pub mod Places
+pub mod Line

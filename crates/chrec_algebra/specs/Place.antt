@@ -1,6 +1,6 @@
 -- a counter replaced by a number
 use Rattle.std.specs.Prelude.{◌≡◌, ℕ, ◌*◌, ◌%◌, ◌⊎◌, List, [], ◌∷◌, if◌then◌else◌, nat_lt}
-use Rattle.scev_tree.specs.Value.{binomial}
+use Rattle.arith_word.specs.Binomial.{binomial}
 use Rattle.scev_tree.specs.Polynomial.{Polynomial, Polynomials, Power, coefficient, place, IsMonomial, Under, IsCanonical}
 use Rattle.chrec_algebra.specs.Product.{sum_to}
 use Rattle.scev_tree.specs.Polynomial.{with_power}

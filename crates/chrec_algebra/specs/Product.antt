@@ -1,6 +1,7 @@
 -- products of polynomials, by their coefficients
 use Rattle.std.specs.Prelude.{◌≡◌, ℕ, zero, suc, ◌+◌, ◌*◌, ◌%◌, ◌<◌, ◌≤◌, ◌⊎◌, List, [], ◌∷◌, if◌then◌else◌, ◌==◌}
-use Rattle.scev_binom.specs.Binomial.{binomial, product_coefficient}
+use Rattle.arith_word.specs.Binomial.{binomial}
+use Rattle.scev_binom.specs.Binomial.{product_coefficient}
 use Rattle.scev_tree.specs.Polynomial.{Polynomial, Polynomials, num, ext, none, more, Power, with_power, coefficient, place, IsMonomial, Under, IsCanonical, AreCanonical}
 use Rattle.scev_tree.specs.Tree.{len}
 

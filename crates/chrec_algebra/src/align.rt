@@ -2,16 +2,14 @@ ghost use Rattle.std.specs.Prelude.{◌≡◌};
 ghost use Rattle.chrec_algebra.specs.Align.{IsAligned};
 ghost use Rattle.scev_tree.specs.Tree.{polynomial_of};
 
-use arith_word::Label;
-use scev_tree::{Tree, rank};
+use scev_tree::{Tree, Variable};
 use std::slice;
 
 /// Two trees as two numbers, or as the places of one variable, the greater of the two.
 pub enum Aligned<'a> {
     Numbers(u64, u64),
     Places {
-        counter: bool,
-        var: Label,
+        x: Variable,
         left: &'a [Tree],
         right: &'a [Tree],
     },
@@ -25,47 +23,55 @@ pub fn align<'a>(a: &'a Tree, b: &'a Tree) -> Aligned<'a>
         Tree::Num(u) => match b {
             Tree::Num(v) => Aligned::Numbers(*u, *v),
             Tree::Ext { counter, var, ops } => Aligned::Places {
-                counter: *counter,
-                var: *var,
+                x: Variable {
+                    counter: *counter,
+                    label: *var,
+                },
                 left: slice::from_ref(a),
                 right: ops.as_slice(),
             },
         },
-        Tree::Ext { counter, var, ops } => match b {
-            Tree::Num(_) => Aligned::Places {
+        Tree::Ext { counter, var, ops } => {
+            let x = Variable {
                 counter: *counter,
-                var: *var,
-                left: ops.as_slice(),
-                right: slice::from_ref(b),
-            },
-            Tree::Ext {
-                counter: other,
-                var: to,
-                ops: more,
-            } => {
-                if rank(*counter, *var) < rank(*other, *to) {
-                    Aligned::Places {
+                label: *var,
+            };
+            match b {
+                Tree::Num(_) => Aligned::Places {
+                    x,
+                    left: ops.as_slice(),
+                    right: slice::from_ref(b),
+                },
+                Tree::Ext {
+                    counter: other,
+                    var: to,
+                    ops: more,
+                } => {
+                    let y = Variable {
                         counter: *other,
-                        var: *to,
-                        left: slice::from_ref(a),
-                        right: more.as_slice(),
-                    }
-                } else if rank(*other, *to) < rank(*counter, *var) {
-                    Aligned::Places {
-                        counter: *counter,
-                        var: *var,
-                        left: ops.as_slice(),
-                        right: slice::from_ref(b),
-                    }
-                } else {
-                    Aligned::Places {
-                        counter: *counter,
-                        var: *var,
-                        left: ops.as_slice(),
-                        right: more.as_slice(),
+                        label: *to,
+                    };
+                    if x.rank() < y.rank() {
+                        Aligned::Places {
+                            x: y,
+                            left: slice::from_ref(a),
+                            right: more.as_slice(),
+                        }
+                    } else if y.rank() < x.rank() {
+                        Aligned::Places {
+                            x,
+                            left: ops.as_slice(),
+                            right: slice::from_ref(b),
+                        }
+                    } else {
+                        Aligned::Places {
+                            x,
+                            left: ops.as_slice(),
+                            right: more.as_slice(),
+                        }
                     }
                 }
             }
-        },
+        }
     }
 }

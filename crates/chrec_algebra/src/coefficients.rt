@@ -1,5 +1,5 @@
 ghost use Rattle.std.specs.Prelude.{◌≡◌, ◌≤◌};
-ghost use Rattle.scev_binom.specs.Binomial.{binomial as binomial_of};
+ghost use Rattle.arith_word.specs.Binomial.{binomial as binomial_of};
 
 // C(n,k) at the place 9 * n + k, for n of at most 16 and k of at most 8.
 const BINOMIALS: [u64; 153] = [

@@ -9,6 +9,8 @@ mod chains;
 mod coefficients;
 mod laws;
 mod limits;
+mod lines;
+mod multiplier;
 mod onto;
 mod places;
 mod product;
@@ -17,8 +19,12 @@ mod sum;
 mod valued;
 
 pub use calls::{add, at, cut, mul, neg, sub, truncate, value};
-pub use laws::{values_of_multiples, values_of_products, values_of_replacements, values_of_sums};
+pub use laws::{
+    leaves_are_within_limits, lines_have_values, results_are_unique, values_of_multiples,
+    values_of_products, values_of_replacements, values_of_sums,
+};
 pub use limits::is_within;
+pub use lines::{Line, split};
 
 #[cfg(test)]
 mod tests;

@@ -10,7 +10,7 @@ pub const MOST_MONOMIALS: u32 = 64;
 /// The greatest total degree that an analysis keeps.
 pub const GREATEST_DEGREE: u32 = 8;
 
-/// Whether the expression has at most 64 monomials, each of a total degree of at most 8.
+/// Whether the expression is within the limits.
 pub fn is_within(e: &Expr) -> bool
     ensures { IsTrue result ↔ IsWithin (polynomial_of e.now.tree) }
 {

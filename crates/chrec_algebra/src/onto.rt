@@ -1,16 +1,18 @@
 ghost use Rattle.std.specs.Prelude.{◌≡◌, ℕ, true, false, ◌⊎◌, ◌<◌, ◌≤◌, ◌^◌, List, IfOk, IfSome, length};
-ghost use Rattle.chrec_algebra.specs.Align.{IsSide};
+ghost use Rattle.scev_tree.specs.Side.{IsSide};
 ghost use Rattle.chrec_algebra.specs.Product.{IsAdded, IsPut};
 ghost use Rattle.chrec_algebra.specs.Onto.{AreAdded, AreFirst, IsAddedIn};
 ghost use Rattle.chrec_algebra.specs.Numbers.{numbers};
-ghost use Rattle.scev_tree.specs.Polynomial.{Polynomial, Power, num, place, ext, IsCanonical, AreCanonical, IsBuilt, variable_of};
+ghost use Rattle.scev_tree.specs.Polynomial.{Polynomial, Power, num, place, ext, IsCanonical, AreCanonical, IsBuilt};
 ghost use Rattle.scev_tree.specs.Tree.{polynomial_of, polynomials, EndsZero, Tidy};
+ghost use Rattle.scev_tree.specs.Variable.{rank_of};
 
 use crate::chains::are_numbers;
+use crate::multiplier::Multiplier;
 use crate::places::{overlay, zeros};
 use crate::sum::add_multiple;
-use arith_word::{Label, Width, add, mul};
-use scev_tree::{Tree, build, is_zero, rank, scale_tree};
+use arith_word::{Width, add, mul};
+use scev_tree::{Tree, Variable, build, is_zero, scale_tree};
 use sqlite_items::Items;
 use std::alloc::{AllocError, Global};
 use std::{mem, slice};
@@ -27,11 +29,16 @@ fn are_tidy(ts: &[Tree]) -> bool
 }
 
 // The canonical tree of the polynomial in this variable with these places.
-fn rebuild(counter: bool, var: Label, mut ops: Items<Tree>) -> Tree
-    ensures { (M : ℕ) → 0 < M → AreCanonical M (polynomials ops) (variable_of counter var.0) → IsBuilt M (variable_of counter var.0) (polynomials ops) (polynomial_of result) }
+fn rebuild(x: Variable, mut ops: Items<Tree>) -> Tree
+    ensures { (M : ℕ) → 0 < M → AreCanonical M (polynomials ops) (rank_of x) → IsBuilt M (rank_of x)
+        (polynomials ops) (polynomial_of result) }
 {
     if are_tidy(ops.as_slice()) {
-        return Tree::Ext { counter, var, ops };
+        return Tree::Ext {
+            counter: x.counter,
+            var: x.label,
+            ops,
+        };
     }
     match ops.pop() {
         None => Tree::Num(0),
@@ -39,15 +46,15 @@ fn rebuild(counter: bool, var: Label, mut ops: Items<Tree>) -> Tree
             if ops.is_empty() {
                 return last;
             }
-            rebuild(counter, var, ops)
+            rebuild(x, ops)
         }
     }
 }
 
 // The places of a tree as one in this variable; none where it has a greater one.
 #[tactic(auto, using(crate::proofs::Sides::polynomial_of_ext, crate::proofs::Sides::polynomial_of_num))]
-fn places_in<'a>(counter: bool, var: Label, t: &'a Tree) -> Option<&'a [Tree]>
-    ensures { IfSome result (λ ts. IsSide (variable_of counter var.0) (polynomials ts.now) (polynomial_of t.now)) }
+fn places_in<'a>(x: Variable, t: &'a Tree) -> Option<&'a [Tree]>
+    ensures { IfSome result (λ ts. IsSide (rank_of x) (polynomials ts.now) (polynomial_of t.now)) }
 {
     match t {
         Tree::Num(_) => Some(slice::from_ref(t)),
@@ -56,9 +63,13 @@ fn places_in<'a>(counter: bool, var: Label, t: &'a Tree) -> Option<&'a [Tree]>
             var: to,
             ops,
         } => {
-            if rank(*other, *to) < rank(counter, var) {
+            let y = Variable {
+                counter: *other,
+                label: *to,
+            };
+            if y.rank() < x.rank() {
                 Some(slice::from_ref(t))
-            } else if rank(counter, var) < rank(*other, *to) {
+            } else if x.rank() < y.rank() {
                 None
             } else {
                 Some(ops.as_slice())
@@ -79,7 +90,8 @@ fn add_tree_to_place(
     requires within { k ≤ length ops.old }
     requires places { (x : ℕ) × AreCanonical (2 ^ w) (polynomials ops.old) x }
     requires tree { IsCanonical (2 ^ w) (polynomial_of t.now) }
-    ensures put { IfOk result (λ _. IsPut (2 ^ w) k c (polynomial_of t.now) (polynomials ops.old) (polynomials ops.new)) }
+    ensures put { IfOk result (λ _. IsPut (2 ^ w) k c (polynomial_of t.now) (polynomials ops.old)
+        (polynomials ops.new)) }
     ensures count { IfOk result (λ _. k < length ops.new) }
 {
     if k < ops.len() {
@@ -105,7 +117,8 @@ fn add_number_to_place(
     requires within { k ≤ length ops.old }
     requires places { (x : ℕ) × AreCanonical (2 ^ w) (polynomials ops.old) x }
     requires number { v < 2 ^ w }
-    ensures put { IfOk result (λ _. IsPut (2 ^ w) k c (num v) (polynomials ops.old) (polynomials ops.new)) }
+    ensures put { IfOk result (λ _. IsPut (2 ^ w) k c (num v) (polynomials ops.old)
+        (polynomials ops.new)) }
     ensures count { IfOk result (λ _. k < length ops.new) }
 {
     if k < ops.len() {
@@ -132,7 +145,8 @@ fn add_to_place(
     requires within { k ≤ length ops.old }
     requires places { (x : ℕ) × AreCanonical (2 ^ w) (polynomials ops.old) x }
     requires tree { IsCanonical (2 ^ w) (polynomial_of t.now) }
-    ensures put { IfOk result (λ _. IsPut (2 ^ w) k c (polynomial_of t.now) (polynomials ops.old) (polynomials ops.new)) }
+    ensures put { IfOk result (λ _. IsPut (2 ^ w) k c (polynomial_of t.now) (polynomials ops.old)
+        (polynomials ops.new)) }
     ensures count { IfOk result (λ _. k < length ops.new) }
 {
     match t {
@@ -149,8 +163,10 @@ fn add_to_places(
     c: u64,
     ts: &[Tree],
 ) -> Result<(), AllocError>
-    requires { (x : ℕ) × AreCanonical (2 ^ w) (polynomials ops.old) x × AreCanonical (2 ^ w) (polynomials ts.now) x }
-    ensures { IfOk result (λ _. AreAdded (2 ^ w) c (length ts.now) (polynomials ts.now) (polynomials ops.old) (polynomials ops.new)) }
+    requires { (x : ℕ) × AreCanonical (2 ^ w) (polynomials ops.old) x × AreCanonical (2 ^ w)
+        (polynomials ts.now) x }
+    ensures { IfOk result (λ _. AreAdded (2 ^ w) c (length ts.now) (polynomials ts.now)
+        (polynomials ops.old) (polynomials ops.new)) }
 {
     for (k, t) in ts.iter().enumerate() {
         add_to_place(alloc, w, ops, k, c, t)?;
@@ -163,19 +179,18 @@ fn add_to_places(
 fn add_to_each(
     alloc: Global,
     w: Width,
-    counter: bool,
-    var: Label,
+    x: Variable,
     out: &mut Vec<Tree>,
     c: u64,
     ts: &[Tree],
 ) -> Result<(), AllocError>
     requires within { length ts.now ≤ length out.old.items }
-    requires places { AreCanonical (2 ^ w) (polynomials out.old.items) (variable_of counter var.0) }
-    requires more { AreCanonical (2 ^ w) (polynomials ts.now) (variable_of counter var.0) }
-    ensures { IfOk result (λ _. AreAdded (2 ^ w) c (length ts.now) (polynomials ts.now) (polynomials out.old.items) (polynomials out.new.items)) }
+    requires places { AreCanonical (2 ^ w) (polynomials out.old.items) (rank_of x) }
+    requires more { AreCanonical (2 ^ w) (polynomials ts.now) (rank_of x) }
+    ensures { IfOk result (λ _. AreAdded (2 ^ w) c (length ts.now) (polynomials ts.now)
+        (polynomials out.old.items) (polynomials out.new.items)) }
 {
-    let _ = var;
-    let _ = counter;
+    let _ = x;
     for (k, t) in ts.iter().enumerate() {
         let old = mem::replace(&mut out[k], Tree::Num(0));
         let sum = add_onto(alloc, w, old, c, t)?;
@@ -188,24 +203,25 @@ fn add_to_each(
 fn add_in_places(
     alloc: Global,
     w: Width,
-    counter: bool,
-    var: Label,
+    x: Variable,
     mut ops: Items<Tree>,
     c: u64,
     ts: &[Tree],
 ) -> Result<Tree, AllocError>
-    requires places { AreCanonical (2 ^ w) (polynomials ops) (variable_of counter var.0) }
-    requires more { AreCanonical (2 ^ w) (polynomials ts.now) (variable_of counter var.0) }
-    ensures { IfOk result (λ r. (t : Polynomial) → IsCanonical (2 ^ w) t → IsSide (variable_of counter var.0) (polynomials ts.now) t → IsAdded (2 ^ w) c (polynomial_of r) (ext (variable_of counter var.0) (polynomials ops)) t) }
+    requires places { AreCanonical (2 ^ w) (polynomials ops) (rank_of x) }
+    requires more { AreCanonical (2 ^ w) (polynomials ts.now) (rank_of x) }
+    ensures { IfOk result (λ r. (t : Polynomial) → IsCanonical (2 ^ w) t → IsSide (rank_of x)
+        (polynomials ts.now) t → IsAdded (2 ^ w) c (polynomial_of r)
+        (ext (rank_of x) (polynomials ops)) t) }
 {
     if are_numbers(ops.as_slice()) && are_numbers(ts) {
         add_to_places(alloc, w, &mut ops, c, ts)?;
-        return Ok(rebuild(counter, var, ops));
+        return Ok(rebuild(x, ops));
     }
     let empty = zeros(alloc, ops.len().max(ts.len()))?;
     let mut out = overlay(ops, empty);
-    add_to_each(alloc, w, counter, var, &mut out, c, ts)?;
-    Ok(build(counter, var, out))
+    add_to_each(alloc, w, x, &mut out, c, ts)?;
+    Ok(build(x, out))
 }
 
 #[tactic(auto, using(crate::proofs::Sides::polynomial_of_num))]
@@ -227,14 +243,21 @@ fn add_to_number(alloc: Global, w: Width, u: u64, c: u64, t: &Tree) -> Result<Tr
 pub fn add_onto(alloc: Global, w: Width, old: Tree, c: u64, t: &Tree) -> Result<Tree, AllocError>
     requires old { IsCanonical (2 ^ w) (polynomial_of old) }
     requires tree { IsCanonical (2 ^ w) (polynomial_of t.now) }
-    ensures { IfOk result (λ r. IsAdded (2 ^ w) c (polynomial_of r) (polynomial_of old) (polynomial_of t.now)) }
+    ensures { IfOk result (λ r. IsAdded (2 ^ w) c (polynomial_of r) (polynomial_of old)
+        (polynomial_of t.now)) }
 {
     match old {
         Tree::Num(u) => Ok(add_to_number(alloc, w, u, c, t)?),
-        Tree::Ext { counter, var, ops } => match places_in(counter, var, t) {
-            Some(ts) => Ok(add_in_places(alloc, w, counter, var, ops, c, ts)?),
-            None => Ok(add_multiple(alloc, w, &Tree::Ext { counter, var, ops }, c, t)?),
-        },
+        Tree::Ext { counter, var, ops } => {
+            let x = Variable {
+                counter,
+                label: var,
+            };
+            match places_in(x, t) {
+                Some(ts) => Ok(add_in_places(alloc, w, x, ops, c, ts)?),
+                None => Ok(add_multiple(alloc, w, &Tree::Ext { counter, var, ops }, c, t)?),
+            }
+        }
     }
 }
 
@@ -242,7 +265,8 @@ pub fn add_onto(alloc: Global, w: Width, old: Tree, c: u64, t: &Tree) -> Result<
 pub fn settle(alloc: Global, w: Width, old: Tree, c: u64, t: Tree) -> Result<Tree, AllocError>
     requires old { IsCanonical (2 ^ w) (polynomial_of old) }
     requires tree { IsCanonical (2 ^ w) (polynomial_of t) }
-    ensures { IfOk result (λ r. IsAdded (2 ^ w) c (polynomial_of r) (polynomial_of old) (polynomial_of t)) }
+    ensures { IfOk result (λ r. IsAdded (2 ^ w) c (polynomial_of r) (polynomial_of old)
+        (polynomial_of t)) }
 {
     if c == 1 && is_zero(&old) {
         return Ok(t);
@@ -260,8 +284,10 @@ fn add_numbers(
     count: usize,
 ) -> Result<(), AllocError>
     requires count { count ≤ 18 }
-    requires places { (x : ℕ) × AreCanonical (2 ^ w) (polynomials ops.old) x × AreCanonical (2 ^ w) (numbers vs.now) x }
-    ensures { IfOk result (λ _. AreAdded (2 ^ w) c count (numbers vs.now) (polynomials ops.old) (polynomials ops.new)) }
+    requires places { (x : ℕ) × AreCanonical (2 ^ w) (polynomials ops.old) x × AreCanonical (2 ^ w)
+        (numbers vs.now) x }
+    ensures { IfOk result (λ _. AreAdded (2 ^ w) c count (numbers vs.now) (polynomials ops.old)
+        (polynomials ops.new)) }
 {
     for k in 0..count {
         add_number_to_place(alloc, w, ops, k, c, vs[k])?;
@@ -284,59 +310,59 @@ fn number_trees(alloc: Global, vs: &[u64; 18], count: usize) -> Result<Vec<Tree>
 // The same where the tree is in another variable, or a number.
 fn settle_numbers(
     alloc: Global,
-    w: Width,
     old: Tree,
-    c: u64,
-    counter: bool,
-    var: Label,
+    by: &Multiplier,
     vs: &[u64; 18],
     count: usize,
 ) -> Result<Tree, AllocError>
-    requires old { IsCanonical (2 ^ w) (polynomial_of old) }
-    requires numbers { AreCanonical (2 ^ w) (numbers vs.now) (variable_of counter var.0) }
+    requires old { IsCanonical (2 ^ by.now.w) (polynomial_of old) }
+    requires numbers { AreCanonical (2 ^ by.now.w) (numbers vs.now) (rank_of by.now.x) }
     requires count { count ≤ 18 }
     requires rest { (k : ℕ) (m : List Power) → count ≤ k → place (numbers vs.now) k m ≡ 0 }
-    ensures { IfOk result (λ r. IsAddedIn (2 ^ w) c (variable_of counter var.0) (polynomial_of r) (polynomial_of old) (numbers vs.now)) }
+    ensures { IfOk result (λ r. IsAddedIn (2 ^ by.now.w) by.now.c (rank_of by.now.x)
+        (polynomial_of r) (polynomial_of old) (numbers vs.now)) }
 {
     let places = number_trees(alloc, vs, count)?;
-    let chain = build(counter, var, places);
-    Ok(settle(alloc, w, old, c, chain)?)
+    let chain = build(by.x, places);
+    Ok(settle(alloc, by.w, old, by.c, chain)?)
 }
 
-/// Adds c times the polynomial in this variable whose places are the first `count` of the numbers.
+/// Adds a multiple of the polynomial whose places are the first `count` of the numbers.
 pub fn add_chain(
     alloc: Global,
-    w: Width,
     old: Tree,
-    c: u64,
-    counter: bool,
-    var: Label,
+    by: &Multiplier,
     vs: &[u64; 18],
     count: usize,
 ) -> Result<Tree, AllocError>
-    requires old { IsCanonical (2 ^ w) (polynomial_of old) }
-    requires numbers { AreCanonical (2 ^ w) (numbers vs.now) (variable_of counter var.0) }
+    requires old { IsCanonical (2 ^ by.now.w) (polynomial_of old) }
+    requires numbers { AreCanonical (2 ^ by.now.w) (numbers vs.now) (rank_of by.now.x) }
     requires count { count ≤ 18 }
     requires rest { (k : ℕ) (m : List Power) → count ≤ k → place (numbers vs.now) k m ≡ 0 }
-    ensures { IfOk result (λ r. IsAddedIn (2 ^ w) c (variable_of counter var.0) (polynomial_of r) (polynomial_of old) (numbers vs.now)) }
+    ensures { IfOk result (λ r. IsAddedIn (2 ^ by.now.w) by.now.c (rank_of by.now.x)
+        (polynomial_of r) (polynomial_of old) (numbers vs.now)) }
 {
     match old {
-        Tree::Num(u) => Ok(settle_numbers(alloc, w, Tree::Num(u), c, counter, var, vs, count)?),
+        Tree::Num(u) => Ok(settle_numbers(alloc, Tree::Num(u), by, vs, count)?),
         Tree::Ext {
             counter: other,
             var: to,
             mut ops,
         } => {
-            if rank(other, to) == rank(counter, var) {
-                add_numbers(alloc, w, &mut ops, c, vs, count)?;
-                return Ok(rebuild(counter, var, ops));
+            let y = Variable {
+                counter: other,
+                label: to,
+            };
+            if y.rank() == by.x.rank() {
+                add_numbers(alloc, by.w, &mut ops, by.c, vs, count)?;
+                return Ok(rebuild(by.x, ops));
             }
             let old = Tree::Ext {
                 counter: other,
                 var: to,
                 ops,
             };
-            Ok(settle_numbers(alloc, w, old, c, counter, var, vs, count)?)
+            Ok(settle_numbers(alloc, old, by, vs, count)?)
         }
     }
 }

@@ -1,12 +1,13 @@
 ghost use Rattle.std.specs.Prelude.{◌≡◌, ℕ, ◌-◌, ◌≤◌, ◌^◌, IfOk, length, vec_len};
 ghost use Rattle.chrec_algebra.specs.Product.{AreZeros};
 ghost use Rattle.chrec_algebra.specs.Places.{IsOverlaid, IsOpened, IsRaised, AreRisen};
-ghost use Rattle.scev_tree.specs.Polynomial.{IsCanonical, AreCanonical, variable_of};
+ghost use Rattle.scev_tree.specs.Polynomial.{IsCanonical, AreCanonical};
 ghost use Rattle.scev_tree.specs.Tree.{polynomial_of, polynomials};
+ghost use Rattle.scev_tree.specs.Variable.{rank_of};
 
 use crate::onto::add_onto;
-use arith_word::{Label, Width};
-use scev_tree::{Tree, copy_tree, rank};
+use arith_word::Width;
+use scev_tree::{Tree, Variable, copy_tree};
 use sqlite_items::Items;
 use std::alloc::{AllocError, Global};
 use std::mem;
@@ -35,7 +36,8 @@ pub fn zeros(alloc: Global, count: usize) -> Result<Vec<Tree>, AllocError>
 pub fn overlay(mut ops: Items<Tree>, mut out: Vec<Tree>) -> Vec<Tree>
     requires { length ops ≤ length out.items }
     ensures count { vec_len result ≡ vec_len out }
-    ensures places { IsOverlaid (length ops) (polynomials ops) (polynomials out.items) (polynomials result.items) }
+    ensures places { IsOverlaid (length ops) (polynomials ops) (polynomials out.items)
+        (polynomials result.items) }
 {
     match ops.pop() {
         None => out,
@@ -48,15 +50,10 @@ pub fn overlay(mut ops: Items<Tree>, mut out: Vec<Tree>) -> Vec<Tree>
 
 /// The places of a tree in this variable, at least `count` of them; a tree in another variable is
 /// the rest.
-pub fn open(
-    alloc: Global,
-    counter: bool,
-    var: Label,
-    old: Tree,
-    count: usize,
-) -> Result<Opened, AllocError>
+pub fn open(alloc: Global, x: Variable, old: Tree, count: usize) -> Result<Opened, AllocError>
     ensures count { IfOk result (λ r. count ≤ length r.places.items) }
-    ensures opened { IfOk result (λ r. IsOpened (variable_of counter var.0) (polynomials r.places.items) (polynomial_of r.rest) (polynomial_of old)) }
+    ensures opened { IfOk result (λ r. IsOpened (rank_of x) (polynomials r.places.items)
+        (polynomial_of r.rest) (polynomial_of old)) }
 {
     match old {
         Tree::Num(v) => Ok(Opened {
@@ -68,7 +65,11 @@ pub fn open(
             var: to,
             ops,
         } => {
-            if rank(other, to) == rank(counter, var) {
+            let y = Variable {
+                counter: other,
+                label: to,
+            };
+            if y.rank() == x.rank() {
                 let out = zeros(alloc, count.max(ops.len()))?;
                 return Ok(Opened {
                     places: overlay(ops, out),
@@ -101,7 +102,8 @@ pub fn copy_places(alloc: Global, ts: &[Tree]) -> Result<Vec<Tree>, AllocError>
 // Adds to each place the next.
 fn raise(alloc: Global, w: Width, us: &mut Vec<Tree>) -> Result<(), AllocError>
     requires { (x : ℕ) × AreCanonical (2 ^ w) (polynomials us.old.items) x }
-    ensures raised { IfOk result (λ _. IsRaised (2 ^ w) (polynomials us.old.items) (polynomials us.new.items)) }
+    ensures raised { IfOk result (λ _. IsRaised (2 ^ w) (polynomials us.old.items)
+        (polynomials us.new.items)) }
     ensures count { vec_len us.new ≡ vec_len us.old }
 {
     for j in 1..us.len() {
@@ -121,8 +123,11 @@ pub fn raise_to(
     i: usize,
     qs: &[Tree],
 ) -> Result<(), AllocError>
-    requires { (x : ℕ) × AreRisen (2 ^ w) x (i - 1) (polynomials us.old.items) (polynomials qs.now) }
-    ensures risen { IfOk result (λ _. (x : ℕ) → AreRisen (2 ^ w) x (i - 1) (polynomials us.old.items) (polynomials qs.now) → AreRisen (2 ^ w) x i (polynomials us.new.items) (polynomials qs.now)) }
+    requires { (x : ℕ) × AreRisen (2 ^ w) x (i - 1) (polynomials us.old.items)
+        (polynomials qs.now) }
+    ensures risen { IfOk result (λ _. (x : ℕ) → AreRisen (2 ^ w) x (i - 1)
+        (polynomials us.old.items) (polynomials qs.now) → AreRisen (2 ^ w) x i
+        (polynomials us.new.items) (polynomials qs.now)) }
     ensures count { vec_len us.new ≡ vec_len us.old }
 {
     let _ = qs;

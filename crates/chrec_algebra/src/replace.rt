@@ -7,7 +7,7 @@ ghost use Rattle.scev_tree.specs.Tree.{polynomial_of, polynomials, Each};
 use crate::onto::add_onto;
 use arith_word::{Label, Width};
 use scev_binom::choose;
-use scev_tree::{Tree, build, copy_tree, rank};
+use scev_tree::{Tree, Variable, build, copy_tree};
 use std::alloc::{AllocError, Global};
 
 /// The polynomial with n in place of a counter.
@@ -15,17 +15,26 @@ use std::alloc::{AllocError, Global};
 pub fn at_tree(alloc: Global, w: Width, t: &Tree, place: Label, n: u64) -> Result<Tree, AllocError>
     requires canon { IsCanonical (2 ^ w) (polynomial_of t.now) }
     requires narrow { Narrow (polynomial_of t.now) }
-    ensures { IfOk result (λ r. IsAt (2 ^ w) (variable_of true place.0) n (polynomial_of r) (polynomial_of t.now)) }
+    ensures { IfOk result (λ r. IsAt (2 ^ w) (variable_of true place.0) n (polynomial_of r)
+        (polynomial_of t.now)) }
 {
     match t {
         Tree::Num(v) => Ok(Tree::Num(*v)),
         Tree::Ext { counter, var, ops } => {
-            if rank(*counter, *var) < rank(true, place) {
+            let x = Variable {
+                counter: *counter,
+                label: *var,
+            };
+            let y = Variable {
+                counter: true,
+                label: place,
+            };
+            if x.rank() < y.rank() {
                 return Ok(copy_tree(alloc, t)?);
             }
-            if rank(true, place) < rank(*counter, *var) {
+            if y.rank() < x.rank() {
                 let places = at_all(alloc, w, ops.as_slice(), place, n)?;
-                return Ok(build(*counter, *var, places));
+                return Ok(build(x, places));
             }
             Ok(combine(alloc, w, place, ops.as_slice(), n)?)
         }
@@ -42,7 +51,8 @@ fn at_all(
 ) -> Result<Vec<Tree>, AllocError>
     requires canon { (x : ℕ) × AreCanonical (2 ^ w) (polynomials ts.now) x }
     requires narrow { NarrowAll (polynomials ts.now) }
-    ensures { IfOk result (λ r. Each (IsAt (2 ^ w) (variable_of true place.0) n) (polynomials r.items) (polynomials ts.now)) }
+    ensures { IfOk result (λ r. Each (IsAt (2 ^ w) (variable_of true place.0) n)
+        (polynomials r.items) (polynomials ts.now)) }
 {
     let mut out = Vec::with_capacity(alloc, ts.len())?;
     for t in ts {
@@ -55,7 +65,8 @@ fn at_all(
 fn combine(alloc: Global, w: Width, place: Label, ts: &[Tree], n: u64) -> Result<Tree, AllocError>
     requires canon { AreCanonical (2 ^ w) (polynomials ts.now) (variable_of true place.0) }
     requires count { length ts.now ≤ 9 }
-    ensures { IfOk result (λ r. IsCombined (2 ^ w) (variable_of true place.0) n (length ts.now) (polynomial_of r) (polynomials ts.now)) }
+    ensures { IfOk result (λ r. IsCombined (2 ^ w) (variable_of true place.0) n (length ts.now)
+        (polynomial_of r) (polynomials ts.now)) }
 {
     let _ = place;
     let mut sum = Tree::Num(0);

@@ -1,12 +1,13 @@
 ghost use Rattle.std.specs.Prelude.{◌≡◌, ℕ, ◌<◌, ◌^◌, ◌⊎◌, IfOk, length};
 ghost use Rattle.chrec_algebra.specs.Product.{IsAdded};
 ghost use Rattle.chrec_algebra.specs.Sum.{IsSum, IsSumIn, IsPlaceSum};
-ghost use Rattle.scev_tree.specs.Polynomial.{IsCanonical, AreCanonical, variable_of};
+ghost use Rattle.scev_tree.specs.Polynomial.{IsCanonical, AreCanonical};
 ghost use Rattle.scev_tree.specs.Tree.{polynomial_of, polynomials};
+ghost use Rattle.scev_tree.specs.Variable.{rank_of};
 
 use crate::align::{Aligned, align};
-use arith_word::{Label, Width, add, mul};
-use scev_tree::{Tree, build, copy_tree, scale_tree};
+use arith_word::{Width, add, mul};
+use scev_tree::{Tree, Variable, build, copy_tree, scale_tree};
 use std::alloc::{AllocError, Global};
 
 /// The sum modulo 2 to the width.
@@ -15,16 +16,12 @@ use std::alloc::{AllocError, Global};
 pub fn add_trees(alloc: Global, w: Width, a: &Tree, b: &Tree) -> Result<Tree, AllocError>
     requires left { IsCanonical (2 ^ w) (polynomial_of a.now) }
     requires right { IsCanonical (2 ^ w) (polynomial_of b.now) }
-    ensures { IfOk result (λ r. IsSum (2 ^ w) (polynomial_of r) (polynomial_of a.now) (polynomial_of b.now)) }
+    ensures { IfOk result (λ r. IsSum (2 ^ w) (polynomial_of r) (polynomial_of a.now)
+        (polynomial_of b.now)) }
 {
     match align(a, b) {
         Aligned::Numbers(u, v) => Ok(Tree::Num(add(w, u, v))),
-        Aligned::Places {
-            counter,
-            var,
-            left,
-            right,
-        } => Ok(add_places(alloc, w, counter, var, left, right)?),
+        Aligned::Places { x, left, right } => Ok(add_places(alloc, w, x, left, right)?),
     }
 }
 
@@ -32,40 +29,39 @@ pub fn add_trees(alloc: Global, w: Width, a: &Tree, b: &Tree) -> Result<Tree, Al
 fn add_places(
     alloc: Global,
     w: Width,
-    counter: bool,
-    var: Label,
+    x: Variable,
     ps: &[Tree],
     qs: &[Tree],
 ) -> Result<Tree, AllocError>
-    requires left { AreCanonical (2 ^ w) (polynomials ps.now) (variable_of counter var.0) }
-    requires right { AreCanonical (2 ^ w) (polynomials qs.now) (variable_of counter var.0) }
-    ensures { IfOk result (λ r. IsSumIn (2 ^ w) (variable_of counter var.0) (polynomial_of r) (polynomials ps.now) (polynomials qs.now)) }
+    requires left { AreCanonical (2 ^ w) (polynomials ps.now) (rank_of x) }
+    requires right { AreCanonical (2 ^ w) (polynomials qs.now) (rank_of x) }
+    ensures { IfOk result (λ r. IsSumIn (2 ^ w) (rank_of x) (polynomial_of r) (polynomials ps.now)
+        (polynomials qs.now)) }
 {
     let count = ps.len().max(qs.len());
     let mut out = Vec::with_capacity(alloc, count)?;
     for k in 0..count {
-        out.push(add_place(alloc, w, counter, var, ps, qs, k)?)?;
+        out.push(add_place(alloc, w, x, ps, qs, k)?)?;
     }
-    Ok(build(counter, var, out))
+    Ok(build(x, out))
 }
 
 #[cycle(adding)]
 fn add_place(
     alloc: Global,
     w: Width,
-    counter: bool,
-    var: Label,
+    x: Variable,
     ps: &[Tree],
     qs: &[Tree],
     k: usize,
 ) -> Result<Tree, AllocError>
-    requires left { AreCanonical (2 ^ w) (polynomials ps.now) (variable_of counter var.0) }
-    requires right { AreCanonical (2 ^ w) (polynomials qs.now) (variable_of counter var.0) }
+    requires left { AreCanonical (2 ^ w) (polynomials ps.now) (rank_of x) }
+    requires right { AreCanonical (2 ^ w) (polynomials qs.now) (rank_of x) }
     requires within { (k < length ps.now) ⊎ (k < length qs.now) }
-    ensures { IfOk result (λ r. IsPlaceSum (2 ^ w) (variable_of counter var.0) k (polynomial_of r) (polynomials ps.now) (polynomials qs.now)) }
+    ensures { IfOk result (λ r. IsPlaceSum (2 ^ w) (rank_of x) k (polynomial_of r)
+        (polynomials ps.now) (polynomials qs.now)) }
 {
-    let _ = var;
-    let _ = counter;
+    let _ = x;
     if k >= ps.len() {
         return Ok(copy_tree(alloc, &qs[k])?);
     }
@@ -86,7 +82,8 @@ pub fn add_multiple(
 ) -> Result<Tree, AllocError>
     requires old { IsCanonical (2 ^ w) (polynomial_of old.now) }
     requires tree { IsCanonical (2 ^ w) (polynomial_of t.now) }
-    ensures { IfOk result (λ r. IsAdded (2 ^ w) c (polynomial_of r) (polynomial_of old.now) (polynomial_of t.now)) }
+    ensures { IfOk result (λ r. IsAdded (2 ^ w) c (polynomial_of r) (polynomial_of old.now)
+        (polynomial_of t.now)) }
 {
     match old {
         Tree::Num(u) => match t {
@@ -106,7 +103,8 @@ fn add_nested_multiple(
 ) -> Result<Tree, AllocError>
     requires old { IsCanonical (2 ^ w) (polynomial_of old.now) }
     requires tree { IsCanonical (2 ^ w) (polynomial_of t.now) }
-    ensures { IfOk result (λ r. IsAdded (2 ^ w) c (polynomial_of r) (polynomial_of old.now) (polynomial_of t.now)) }
+    ensures { IfOk result (λ r. IsAdded (2 ^ w) c (polynomial_of r) (polynomial_of old.now)
+        (polynomial_of t.now)) }
 {
     if c == 1 {
         return Ok(add_trees(alloc, w, old, t)?);

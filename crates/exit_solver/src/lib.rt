@@ -4,9 +4,11 @@
 #![tactic(auto)]
 
 mod arc;
+mod exit;
 mod hit;
 #[cfg(test)]
 mod tests;
 
 pub use arc::{Arc, exit_arc};
+pub use exit::least_exit;
 pub use hit::{Hit, first_hit};

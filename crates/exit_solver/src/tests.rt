@@ -87,3 +87,28 @@ fn arcs_have_the_numbers_that_fail(rt: HostRuntime) {
         }
     }
 }
+
+#[test]
+fn least_exits_agree_with_a_search(rt: HostRuntime) {
+    for bits in 1..5 {
+        let w = Width::new(bits).expect(&rt, "a width");
+        for pred in PREDS {
+            // three numbers of at most four bits
+            for abc in 0..4096u64 {
+                let (a, b, c) = (add(w, abc, 0), add(w, abc >> bits, 0), add(w, abc >> 8, 0));
+                let exit = least_exit(w, pred, a, b, c);
+                assert_eq!(rt; exit, tried_exit(w, pred, a, b, c), "{pred:?} {a} {b} {c}");
+            }
+        }
+    }
+}
+
+/// The same by trying each iteration.
+fn tried_exit(w: Width, pred: Pred, a: u64, b: u64, c: u64) -> Hit {
+    for n in 0..=w.mask() {
+        if !compare(pred, word(w, add(w, a, mul(w, b, n))), word(w, c)) {
+            return Hit::At(n);
+        }
+    }
+    Hit::Never
+}

@@ -2,11 +2,12 @@
 use Rattle.std.proofs.Common.{◌≡◌, ℕ, zero, suc, ◌+◌, ◌*◌, ◌%◌, ◌<◌, ◌⊎◌, inl, inr, List, [], ◌∷◌, refl, ap, ◌∙◌, sym, subst, arith, add-one}
 use Rattle.std.proofs.lemmas.Bool.{eq-eqb, cases_order, cases_lt}
 use Rattle.scev_tree.specs.Polynomial.{Polynomial, Polynomials, num, ext, none, more, Power, power, coefficient, IsMonomial, Under, IsCanonical, AreCanonical, EndsNonzero, IsSamePolynomial, with_power}
-use Rattle.scev_tree.specs.Value.{binomial, worth, value, values, with_value}
+use Rattle.arith_word.specs.Binomial.{binomial}
+use Rattle.scev_tree.specs.Value.{worth, value, values, with_value}
 use Rattle.scev_tree.proofs.Values.{value_under, worth_here}
 use Rattle.scev_tree.proofs.Unique.{unique_law, above}
 use Rattle.scev_tree.proofs.Places.{high_place}
-use Rattle.phi_solve.specs.Side.{IsSide}
+use Rattle.scev_tree.specs.Side.{IsSide}
 use Rattle.phi_solve.specs.Step.{IsChain}
 use Rattle.phi_solve.proofs.Steps.{side_one, side_ext}
 

@@ -1,3 +1,4 @@
 pub mod Around
 pub mod Chains
+pub mod Recurrences
 pub mod Steps

@@ -7,28 +7,15 @@ use Rattle.scev_tree.specs.Polynomial.{Polynomial, Polynomials, num, ext, none, 
 use Rattle.scev_tree.specs.Tree.{polynomials, polynomial_of, len}
 use Rattle.scev_tree.specs.Polynomial.{variable}
 use Rattle.phi_solve.specs.Step.{IsStep, IsChain}
-use Rattle.phi_solve.specs.Side.{IsSide}
+use Rattle.scev_tree.specs.Side.{IsSide}
+pub use Rattle.scev_tree.proofs.Sides.{side_one, side_ext, side_list, side_places}
 use Rattle.scev_tree.proofs.Unique.{unique, above, raised}
 use Rattle.scev_tree.proofs.Places.{fits}
 use Rattle.scev_tree.proofs.Places.{high_place}
 pub use Rattle.scev_tree.proofs.Rows.{polynomial_of_num, polynomial_of_ext}
 use Rattle.scev_tree.proofs.Rows.{len_is}
-use Rattle.scev_tree.proofs.Ends.{one_at}
-use Rattle.scev_tree.proofs.Places.{places_canon}
 
 -- ---- the places of a polynomial
-
-pub side_one : (x : ℕ) (a : Polynomial) → Under a x → IsSide x (more a none) a
-side_one x a u = record { canon = λ M c. (u, c, tt); at = λ M c m top is. one_at M x a m top c u is }
-
-pub side_ext : (x : ℕ) (ps : Polynomials) → IsSide x ps (ext x ps)
-side_ext x ps = record { canon = λ M c. places_canon M x ps c; at = λ M c m top is. refl }
-
-pub side_list : (x : ℕ) (t : Tree) (ts : List Tree) → ts ≡ t ∷ [] → Under (polynomial_of t) x → IsSide x (polynomials ts) (polynomial_of t)
-side_list x t ts e u = rw e (side_one x (polynomial_of t) u)
-
-pub side_places : (x y : ℕ) (p : Polynomial) (ts : List Tree) → p ≡ ext y (polynomials ts) → y ≡ x → IsSide x (polynomials ts) p
-side_places x y p ts e f = rw (e, f) (side_ext x (polynomials ts))
 
 abbrev pub plus : ℕ → Polynomial → Polynomial
 plus arg p = ext arg (more p (more (num 1) none))
@@ -144,8 +131,9 @@ step_found M arg x z y r init ts p o h lt ez c e g l ep eo one low ch =
     let d : y ≡ plus arg (polynomial_of p) = e ∙ (ap (ext z) (two ts p o g l ep eo) ∙ (ap (λ q. ext z (more (polynomial_of p) (more q none))) one ∙ ap (λ k. ext k (more (polynomial_of p) (more (num 1) none))) ez)) in
     (polynomial_of p, step_from M arg x y (polynomial_of p) h lt d (canon_first M z y ts p o c e g l ep eo) low, ch)
 
-pub chain_built : (M x : ℕ) (r init p : Polynomial) (out ts : List Tree) (i : ℕ) → 0 < M → length ts ≤ i → polynomials out ≡ more init (polynomials (take i ts)) → IsCanonical M init → Under init x → IsCanonical M p → IsSide x (polynomials ts) p → (AreCanonical M (polynomials out) x → IsBuilt M x (polynomials out) r) → IsChain M x r init p
-chain_built M x r init p out ts i some le e ci ui cp s built =
+pub chain_built : (M x y : ℕ) (r init p : Polynomial) (out ts : List Tree) (i : ℕ) → 0 < M → length ts ≤ i → y ≡ x → polynomials out ≡ more init (polynomials (take i ts)) → IsCanonical M init → Under init x → IsCanonical M p → IsSide x (polynomials ts) p → (AreCanonical M (polynomials out) y → IsBuilt M y (polynomials out) r) → IsChain M x r init p
+chain_built M x y r init p out ts i some le same e ci ui cp s built' =
+    let built = subst (λ z. AreCanonical M (polynomials out) z → IsBuilt M z (polynomials out) r) same built' in
     let e' : polynomials out ≡ more init (polynomials ts) = e ∙ ap (λ (us : List Tree). more init (polynomials us)) (take_all i ts le) in
     let c : AreCanonical M (more init (polynomials ts)) x = (ui, ci, s.canon M cp) in
     let b = subst (λ ps. AreCanonical M ps x → IsBuilt M x ps r) e' built c in

@@ -5,8 +5,10 @@
 mod laws;
 mod solve;
 
-pub use laws::{chains_begin, chains_grow};
-pub use solve::{Solved, recur};
+pub use laws::{
+    chains_begin, chains_grow, chains_of_fixed_steps, steps_and_chains_are_unique, yields_are_sums,
+};
+pub use solve::{Solved, add_recurrence, is_below, is_low, recur};
 
 #[cfg(test)]
 mod tests;

@@ -1,11 +1,11 @@
-ghost use Rattle.std.specs.Prelude.{◌≡◌, true, IfOk, IsTrue, ◌↔◌};
-ghost use Rattle.scev_tree.specs.Polynomial.{Under, variable_of};
-ghost use Rattle.scev_tree.specs.Tree.{polynomial_of};
+ghost use Rattle.std.specs.Prelude.{◌≡◌, IfOk};
 
-use crate::solve::is_low;
-use crate::{Solved, chains_begin, chains_grow, recur};
+use crate::{
+    Solved, add_recurrence, chains_begin, chains_grow, chains_of_fixed_steps, is_below, is_low,
+    recur, steps_and_chains_are_unique, yields_are_sums,
+};
 use arith_word::{Label, Width};
-use scev_tree::{Expr, Tree, build, chain, degree, main_var, num, rank, same, size, sym};
+use scev_tree::{Expr, Tree, Variable, build, chain, degree, main_var, num, same, size, sym};
 use std::alloc::{AllocError, Global};
 use std::test::Fail;
 
@@ -25,23 +25,12 @@ fn around(alloc: Global, p: Expr, first: u64, second: u64) -> Result<Expr, Alloc
     places.push(p.tree)?;
     places.push(Tree::Num(first & w.mask()))?;
     places.push(Tree::Num(second & w.mask()))?;
-    let tree = build(false, ARGUMENT, places);
+    let argument = Variable {
+        counter: false,
+        label: ARGUMENT,
+    };
+    let tree = build(argument, places);
     Ok(Expr { w, tree })
-}
-
-// Whether all variables are below the counter.
-#[tactic(auto, using(crate::proofs::Steps::polynomial_of_ext, crate::proofs::Steps::polynomial_of_num))]
-fn is_below(t: &Tree, counter: Label) -> bool
-    ensures { IsTrue result ↔ Under (polynomial_of t.now) (variable_of true counter.0) }
-{
-    match t {
-        Tree::Num(_) => true,
-        Tree::Ext {
-            counter: is,
-            var,
-            ..
-        } => rank(*is, *var) < rank(true, counter),
-    }
 }
 
 // What the argument is, where init is fit for it.
@@ -73,6 +62,9 @@ fn is_chain(alloc: Global, p: Expr, init: u64, places: &[u64]) -> Result<bool, A
 fn steps_are_summed(rt: HostRuntime) -> Result<(), Fail> {
     chains_begin();
     chains_grow();
+    chains_of_fixed_steps();
+    yields_are_sums();
+    steps_and_chains_are_unique();
     let alloc = rt.alloc();
     for bits in [1, 8, 33, 64] {
         let Some(w) = Width::new(bits) else {
@@ -119,5 +111,18 @@ fn other_yields_are_not_solved(rt: HostRuntime) -> Result<(), Fail> {
     let same_label = around(alloc, sym(alloc, w, COUNTER)?, 1, 0)?;
     assert!(rt; solved(alloc, &same_label, &init)?.is_none());
     assert!(rt; solved(alloc, &num(w, 1), &init)?.is_none());
+    Ok(())
+}
+
+#[test]
+fn induction_variables_are_chains_of_start_and_step(rt: HostRuntime) -> Result<(), Fail> {
+    let alloc = rt.alloc();
+    let Some(w) = Width::new(32) else {
+        return Ok(());
+    };
+    let (lower, step) = (num(w, 7), num(w, 3));
+    assert!(rt; is_below(&lower.tree, COUNTER) && is_low(&step.tree, COUNTER));
+    let variable = add_recurrence(alloc, &lower, &step, COUNTER)?;
+    assert!(rt; same(&variable, &chain(alloc, w, COUNTER, &[7, 3])?));
     Ok(())
 }

@@ -3,7 +3,8 @@ use Rattle.std.proofs.Common.{◌≡◌, ℕ, zero, suc, ◌+◌, ◌-◌, ◌*�
 use Rattle.std.proofs.lemmas.Nat.{and_mask, pow_pos, mul-mod_first, mul-mod_second, shl-shr, field_of, mod-pow-add, mod_low, mod_below}
 use Rattle.std.specs.Prelude.{bit_and}
 use Rattle.arith_word.proofs.Residues.{mod_64, masked}
-use Rattle.scev_binom.specs.Binomial.{binomial, factorial}
+use Rattle.arith_word.specs.Binomial.{binomial}
+use Rattle.scev_binom.specs.Binomial.{factorial}
 use Rattle.scev_binom.specs.Division.{Divides}
 
 pub binomial_none : (n : ℕ) → binomial n 0 ≡ 1

@@ -1,7 +1,8 @@
 -- The product of two binomials, by induction on n.
 use Rattle.std.proofs.Common.{◌≡◌, ℕ, zero, suc, ◌+◌, ◌-◌, ◌*◌, ◌<◌, ◌≤◌, refl, ap, ◌∙◌, sym, arith, max, inl, inr}
 use Rattle.std.proofs.lemmas.Bool.{cases_lt}
-use Rattle.scev_binom.specs.Binomial.{binomial, product_coefficient, factorial_quotient, sum_from, IsProductOfBinomials}
+use Rattle.arith_word.specs.Binomial.{binomial}
+use Rattle.scev_binom.specs.Binomial.{product_coefficient, factorial_quotient, sum_from, IsProductOfBinomials}
 use Rattle.scev_binom.proofs.Tables.{coefficient_is}
 
 -- the sum of f k * C(n,k) over k below top

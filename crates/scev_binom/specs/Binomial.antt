@@ -1,11 +1,6 @@
 -- binomial coefficients, and how the product of two is a sum of others
 use Rattle.std.specs.Prelude.{◌≡◌, ℕ, zero, suc, ◌+◌, ◌-◌, ◌*◌, ◌/◌, max}
-
--- C(n,k), by Pascal's rule
-unfoldable pub binomial : ℕ → ℕ → ℕ
-binomial n zero = 1
-binomial zero (suc k) = 0
-binomial (suc n) (suc k) = binomial n k + binomial n (suc k)
+use Rattle.arith_word.specs.Binomial.{binomial}
 
 -- n!
 unfoldable pub factorial : ℕ → ℕ

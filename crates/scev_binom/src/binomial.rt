@@ -1,5 +1,5 @@
 ghost use Rattle.std.specs.Prelude.{◌≡◌, ◌%◌, ◌≤◌, ◌^◌};
-ghost use Rattle.scev_binom.specs.Binomial.{binomial};
+ghost use Rattle.arith_word.specs.Binomial.{binomial};
 ghost use Rattle.scev_binom.specs.Division.{Divides};
 
 use arith_word::Width;

@@ -8,3 +8,6 @@ pub mod Comparing
 pub mod Leaves
 pub mod Values
 pub mod Residual
+pub mod Sides
+pub mod Agreeing
+pub mod Counting

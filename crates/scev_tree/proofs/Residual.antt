@@ -1,9 +1,9 @@
 -- chains of numbers
-use Rattle.std.proofs.Common.{◌≡◌, ℕ, zero, suc, ◌+◌, ◌%◌, ◌^◌, ◌<◌, ◌≤◌, List, [], ◌∷◌, ◌++◌, refl, ap, ◌∙◌, sym, subst, arith, length, get_or, take, take_all, Bool, true}
+use Rattle.std.proofs.Common.{◌≡◌, ℕ, zero, suc, ◌+◌, ◌%◌, ◌^◌, ◌<◌, ◌≤◌, List, [], ◌∷◌, ◌++◌, refl, ap, ◌∙◌, sym, subst, arith, length, get_or, take, take_all}
 use Rattle.std.proofs.lemmas.Nat.{mod_below}
 use Rattle.std.specs.Prelude.{bit_and}
 use Rattle.scev_tree.specs.declared.tree.Tree.{Tree, Num}
-use Rattle.scev_tree.specs.Polynomial.{Polynomial, Polynomials, num, ext, none, more, AreCanonical, IsBuilt}
+use Rattle.scev_tree.specs.Polynomial.{Polynomial, num, more, AreCanonical, IsBuilt}
 use Rattle.scev_tree.specs.Tree.{polynomial_of, polynomials, residues}
 use Rattle.scev_tree.proofs.Ends.{snoc, polynomials_snoc}
 use Rattle.scev_tree.proofs.Leaves.{number_is}
@@ -32,7 +32,8 @@ residues_canonical : (M x : ℕ) (vs : List ℕ) → 0 < M → AreCanonical M (r
 residues_canonical M x [] some = tt
 residues_canonical M x (v ∷ vs) some = (tt, mod_below v M some, residues_canonical M x vs some)
 
-pub chain_built : (M x i : ℕ) (r : Polynomial) (out : List Tree) (vs : List ℕ) → 0 < M → length vs ≤ i → polynomials out ≡ residues M (take i vs) → (AreCanonical M (polynomials out) x → IsBuilt M x (polynomials out) r) → IsBuilt M x (residues M vs) r
-chain_built M x i r out vs some le e built =
+pub chain_built : (M x y i : ℕ) (r : Polynomial) (out : List Tree) (vs : List ℕ) → 0 < M → length vs ≤ i → y ≡ x → polynomials out ≡ residues M (take i vs) → (AreCanonical M (polynomials out) y → IsBuilt M y (polynomials out) r) → IsBuilt M x (residues M vs) r
+chain_built M x y i r out vs some le same e built =
     let e' : polynomials out ≡ residues M vs = e ∙ ap (λ us. residues M us) (take_all i vs le) in
-    subst (λ ps. AreCanonical M ps x → IsBuilt M x ps r) e' built (residues_canonical M x vs some)
+    let built' = subst (λ z. AreCanonical M (polynomials out) z → IsBuilt M z (polynomials out) r) same built in
+    subst (λ ps. AreCanonical M ps x → IsBuilt M x ps r) e' built' (residues_canonical M x vs some)

@@ -1,7 +1,7 @@
 -- a value depends on the numbers of the polynomial's variables alone
 use Rattle.std.proofs.Common.{◌≡◌, ℕ, suc, ◌%◌, ◌<◌, refl, arith}
 use Rattle.std.proofs.lemmas.Bool.{eq-eqb, ne_eqb}
-use Rattle.scev_tree.specs.Value.{binomial}
+use Rattle.arith_word.specs.Binomial.{binomial}
 use Rattle.scev_tree.specs.Polynomial.{Polynomial, Polynomials, num, ext, none, more, Under, IsCanonical, AreCanonical}
 use Rattle.scev_tree.specs.Value.{worth, value, values, with_value}
 

@@ -1,12 +1,7 @@
 -- the value of a polynomial where its symbols are numbers and its counters are at a turn
 use Rattle.std.specs.Prelude.{ℕ, zero, suc, ◌+◌, ◌*◌, ◌/◌, ◌%◌, ◌^◌, if◌then◌else◌, ◌==◌}
 use Rattle.scev_tree.specs.Polynomial.{Polynomial, Polynomials, num, ext, none, more}
-
--- C(n,k), by Pascal's rule
-unfoldable pub binomial : ℕ → ℕ → ℕ
-binomial n zero = 1
-binomial zero (suc k) = 0
-binomial (suc n) (suc k) = binomial n k + binomial n (suc k)
+use Rattle.arith_word.specs.Binomial.{binomial}
 
 -- what the place j of a variable is multiplied by: C(n,j) for a counter at the turn n, v ^ j for a
 -- symbol that is v

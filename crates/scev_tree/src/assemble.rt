@@ -1,9 +1,10 @@
 ghost use Rattle.std.specs.Prelude.{◌≡◌, ℕ, true, false, ◌<◌, length};
-ghost use Rattle.scev_tree.specs.Polynomial.{variable_of, AreCanonical, IsBuilt};
+ghost use Rattle.scev_tree.specs.Polynomial.{AreCanonical, IsBuilt};
 ghost use Rattle.scev_tree.specs.Tree.{polynomial_of, polynomials, EndsZero, Tidy, IsTrimmed};
+ghost use Rattle.scev_tree.specs.Variable.{rank_of};
 
 use crate::tree::{Tree, is_zero};
-use arith_word::Label;
+use crate::variable::Variable;
 use sqlite_items::Items;
 
 fn ends_in_zero(places: &[Tree]) -> bool
@@ -29,14 +30,15 @@ fn trim(places: &mut Vec<Tree>)
 
 /// The canonical tree of the polynomial in this variable with these places: zeros at the end go, and
 /// so does the variable where one place is left.
-pub fn build(counter: bool, var: Label, mut places: Vec<Tree>) -> Tree
-    ensures { (M : ℕ) → 0 < M → AreCanonical M (polynomials places.items) (variable_of counter var.0) → IsBuilt M (variable_of counter var.0) (polynomials places.items) (polynomial_of result) }
+pub fn build(x: Variable, mut places: Vec<Tree>) -> Tree
+    ensures { (M : ℕ) → 0 < M → AreCanonical M (polynomials places.items) (rank_of x)
+        → IsBuilt M (rank_of x) (polynomials places.items) (polynomial_of result) }
 {
     trim(&mut places);
     if places.len() > 1 {
         Tree::Ext {
-            counter,
-            var,
+            counter: x.counter,
+            var: x.label,
             ops: Items::from_vec(places),
         }
     } else {

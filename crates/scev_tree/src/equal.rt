@@ -2,7 +2,8 @@ ghost use Rattle.std.specs.Prelude.{◌≡◌, ℕ, IsTrue, ◌↔◌};
 ghost use Rattle.scev_tree.specs.Polynomial.{Polynomial, IsUnique};
 ghost use Rattle.scev_tree.specs.Tree.{polynomial_of, polynomials};
 
-use crate::tree::{Tree, rank};
+use crate::tree::Tree;
+use crate::variable::Variable;
 
 /// Whether two trees have the same numbers and variables at the same places.
 #[cycle(comparing)]
@@ -20,8 +21,17 @@ pub fn equal_trees(a: &Tree, b: &Tree) -> bool
                 counter: other,
                 var: to,
                 ops: more,
-            } => rank(*counter, *var) == rank(*other, *to)
-                && equal_places(ops.as_slice(), more.as_slice()),
+            } => {
+                let x = Variable {
+                    counter: *counter,
+                    label: *var,
+                };
+                let y = Variable {
+                    counter: *other,
+                    label: *to,
+                };
+                x.rank() == y.rank() && equal_places(ops.as_slice(), more.as_slice())
+            }
         },
     }
 }

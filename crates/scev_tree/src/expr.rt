@@ -52,7 +52,8 @@ pub fn sym(alloc: Global, w: Width, x: Label) -> Result<Expr, AllocError>
 
 /// Whether width and polynomial are equal.
 pub fn same(a: &Expr, b: &Expr) -> bool
-    ensures { IsTrue result ↔ ((a.now.w ≡ b.now.w) × IsSamePolynomial (polynomial_of a.now.tree) (polynomial_of b.now.tree)) }
+    ensures { IsTrue result ↔ ((a.now.w ≡ b.now.w) × IsSamePolynomial (polynomial_of a.now.tree)
+        (polynomial_of b.now.tree)) }
 {
     a.w == b.w && equal_trees(&a.tree, &b.tree)
 }
@@ -74,7 +75,8 @@ pub fn degree(e: &Expr) -> u32
 /// `c` times the polynomial.
 pub fn scale(alloc: Global, e: &Expr, c: u64) -> Result<Expr, AllocError>
     ensures width { IfOk result (λ r. r.w ≡ e.now.w) }
-    ensures scaled { IfOk result (λ r. IsScaled (2 ^ e.now.w) c (polynomial_of r.tree) (polynomial_of e.now.tree)) }
+    ensures scaled { IfOk result (λ r. IsScaled (2 ^ e.now.w) c (polynomial_of r.tree)
+        (polynomial_of e.now.tree)) }
 {
     let tree = scale_tree(alloc, e.w, &e.tree, c)?;
     Ok(Expr { w: e.w, tree })

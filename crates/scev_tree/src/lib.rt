@@ -8,23 +8,32 @@ mod chains;
 mod copies;
 mod equal;
 mod expr;
+mod laws;
 mod measure;
 mod scaling;
 mod tree;
+mod variable;
 
 pub use assemble::build;
 pub use chains::chain;
 pub use copies::copy_tree;
 pub use equal::{equal_trees, trees_are_unique};
 pub use expr::{Expr, copy, degree, num, same, scale, size, sym};
+pub use laws::{
+    polynomials_have_trees, sizes_are_those_of_coefficients, values_depend_on_variables,
+    values_of_leaves,
+};
 pub use measure::{tree_degree, tree_size};
 pub use scaling::scale_tree;
-pub use tree::{Tree, is_zero, main_var, rank};
+pub use tree::{Tree, is_zero, main_var};
+pub use variable::Variable;
 
 #[cfg(test)]
 mod tests {
     use crate::{
-        chain, copy, degree, is_zero, main_var, num, rank, same, scale, size, sym, trees_are_unique,
+        Variable, chain, copy, degree, is_zero, main_var, num, polynomials_have_trees, same, scale,
+        size, sizes_are_those_of_coefficients, sym, trees_are_unique, values_depend_on_variables,
+        values_of_leaves,
     };
     use arith_word::{Label, Width};
     use std::test::Fail;
@@ -32,6 +41,10 @@ mod tests {
     #[test]
     fn numbers_are_taken_modulo_the_width(rt: HostRuntime) {
         trees_are_unique();
+        values_depend_on_variables();
+        values_of_leaves();
+        polynomials_have_trees();
+        sizes_are_those_of_coefficients();
         let (Some(byte), Some(word)) = (Width::new(8), Width::new(64)) else {
             return;
         };
@@ -72,8 +85,9 @@ mod tests {
         assert!(rt; same(&chain(alloc, byte, Label(3), &[7, 0, 0])?, &num(byte, 7)));
         assert!(rt; is_zero(&chain(alloc, byte, Label(3), &[0, 0])?.tree));
         assert!(rt; !same(&counted, &squares));
-        assert!(rt; rank(true, Label(3)) < rank(false, Label(3)));
-        assert!(rt; rank(false, Label(3)) < rank(true, Label(4)));
+        let x = Variable::symbol_of(Label(3));
+        assert!(rt; Variable::counter_of(Label(3)).rank() < x.rank());
+        assert!(rt; x.rank() < Variable::counter_of(Label(4)).rank());
         Ok(())
     }
 }

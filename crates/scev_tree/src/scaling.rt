@@ -4,6 +4,7 @@ ghost use Rattle.scev_tree.specs.Tree.{polynomial_of, polynomials, Each};
 
 use crate::assemble::build;
 use crate::tree::Tree;
+use crate::variable::Variable;
 use arith_word::{Width, mul};
 use std::alloc::{AllocError, Global};
 
@@ -17,7 +18,11 @@ pub fn scale_tree(alloc: Global, w: Width, t: &Tree, c: u64) -> Result<Tree, All
         Tree::Num(v) => Ok(Tree::Num(mul(w, c, *v))),
         Tree::Ext { counter, var, ops } => {
             let places = scale_all(alloc, w, ops.as_slice(), c)?;
-            Ok(build(*counter, *var, places))
+            let x = Variable {
+                counter: *counter,
+                label: *var,
+            };
+            Ok(build(x, places))
         }
     }
 }
@@ -25,7 +30,8 @@ pub fn scale_tree(alloc: Global, w: Width, t: &Tree, c: u64) -> Result<Tree, All
 #[cycle(scaling)]
 fn scale_all(alloc: Global, w: Width, ts: &[Tree], c: u64) -> Result<Vec<Tree>, AllocError>
     requires { (K : ℕ) × (x : ℕ) × AreCanonical K (polynomials ts.now) x }
-    ensures { IfOk result (λ r. Each (IsScaled (2 ^ w) c) (polynomials r.items) (polynomials ts.now)) }
+    ensures { IfOk result (λ r. Each (IsScaled (2 ^ w) c) (polynomials r.items)
+        (polynomials ts.now)) }
 {
     let mut out = Vec::with_capacity(alloc, ts.len())?;
     for t in ts {

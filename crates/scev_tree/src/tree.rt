@@ -1,5 +1,5 @@
 ghost use Rattle.std.specs.Prelude.{◌≡◌, ℕ, IsTrue, ◌↔◌};
-ghost use Rattle.scev_tree.specs.Polynomial.{num, variable_of};
+ghost use Rattle.scev_tree.specs.Polynomial.{num};
 ghost use Rattle.scev_tree.specs.Tree.{polynomial_of, IsMainVariable};
 
 use arith_word::Label;
@@ -15,18 +15,6 @@ pub enum Tree {
         var: Label,
         ops: Items<Tree>,
     },
-}
-
-/// The place of a variable in the order: by label, and of a symbol and a counter with one label the
-/// symbol is the greater.
-pub fn rank(counter: bool, var: Label) -> u64
-    ensures { result ≡ variable_of counter var.0 }
-{
-    if counter {
-        2 * u64::from(var.0)
-    } else {
-        2 * u64::from(var.0) + 1
-    }
 }
 
 /// Whether the tree is the number 0.

@@ -1,4 +1,5 @@
 use Rattle.std.proofs.Common.{arith, ◌≡◌, ◌^◌, ◌<◌, length, ap, ◌∙◌, refl, subst}
+use Rattle.scev_tree.specs.Variable.{rank_of}
 use Rattle.std.proofs.lemmas.Nat.{pow_pos}
 use Rattle.scev_tree.specs.Polynomial.{ext, IsCanonical, variable_of}
 use Rattle.scev_tree.specs.Tree.{polynomial_of, polynomials}
@@ -18,7 +19,7 @@ add_onto-add_in_places-requires t c =
 
 pub add_to_each-add_onto-requires : goal.add_to_each-add_onto-requires
 add_to_each-add_onto-requires t c =
-    let x = variable_of c.args.counter c.args.var.0 in
+    let x = rank_of c.args.x in
     let lt : c.loop-k.k < length c.args.ts.now = c.loop-k-test.true in
     let lo : c.loop-k.k < length c.loop-k.out.items = omega (arith, lt, c.requires.within, c.loop-k.invariant.0) in
     let d = c.loop-k.invariant.1.canon x c.requires.places c.requires.more in
@@ -34,15 +35,15 @@ add_to_each-loop-k-preserved t c =
 
 pub add_in_places-add_to_each-requires : goal.add_in_places-add_to_each-requires
 add_in_places-add_to_each-requires t c =
-    let x = variable_of c.args.counter c.args.var.0 in
+    let x = rank_of c.args.x in
     (omega arith, (omega (arith, c.overlay-out.ensures.count, c.in_ok-empty.ensures.0, c.max.ensures), (c.overlay-out.ensures.places.canon (2 ^ c.args.w) x c.requires.places (c.in_ok-empty.ensures.1.canon (2 ^ c.args.w) x (pow_pos c.args.w)), c.requires.more)))
 
 pub add_in_places-returns-then-are_numbers-2 : goal.add_in_places-returns-then-are_numbers-2
-add_in_places-returns-then-are_numbers-2 t c = λ p ct side. added_built (2 ^ c.args.w) c.args.c (variable_of c.args.counter c.args.var.0) c.args.ts.now _ _ _ p (pow_pos c.args.w) c.requires.places ct side c.in_ok-add_to_places.ensures (c.rebuild.ensures (2 ^ c.args.w) (pow_pos c.args.w) (c.in_ok-add_to_places.ensures.canon (variable_of c.args.counter c.args.var.0) c.requires.places c.requires.more))
+add_in_places-returns-then-are_numbers-2 t c = λ p ct side. added_built (2 ^ c.args.w) c.args.c (rank_of c.args.x) c.args.ts.now _ _ _ p (pow_pos c.args.w) c.requires.places ct side c.in_ok-add_to_places.ensures (c.rebuild.ensures (2 ^ c.args.w) (pow_pos c.args.w) (c.in_ok-add_to_places.ensures.canon (rank_of c.args.x) c.requires.places c.requires.more))
 
 pub add_in_places-returns : goal.add_in_places-returns
 add_in_places-returns t c =
     let M = 2 ^ c.args.w in
-    let x = variable_of c.args.counter c.args.var.0 in
+    let x = rank_of c.args.x in
     let added = added_over M c.args.c (length c.args.ts.now) c.args.ops (polynomials c.args.ts.now) _ _ _ (pow_pos c.args.w) c.in_ok-empty.ensures.1 c.overlay-out.ensures.places c.in_ok-add_to_each.ensures in
     λ p ct side. added_built M c.args.c x c.args.ts.now (polynomials c.args.ops) _ _ p (pow_pos c.args.w) c.requires.places ct side added (c.build.ensures M (pow_pos c.args.w) (added.canon x c.requires.places c.requires.more))

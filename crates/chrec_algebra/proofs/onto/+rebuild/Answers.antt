@@ -6,7 +6,7 @@ use Rattle.chrec_algebra.proofs.InPlace.{without_zero, alone, together}
 use Rattle.chrec_algebra.proofs.onto.+rebuild.Goals as goal
 
 pub returns-then-are_tidy : goal.returns-then-are_tidy
-returns-then-are_tidy t c = λ M some all. together M c.args.counter c.args.var c.as_slice.result.now c.args.ops c.as_slice.ensures (c.are_tidy.ensures.tidy c.if-are_tidy.true) all
+returns-then-are_tidy t c = λ M some all. together M c.args.x.counter c.args.x.label c.as_slice.result.now c.args.ops c.as_slice.ensures (c.are_tidy.ensures.tidy c.if-are_tidy.true) all
 
 pub returns-in-None : goal.returns-in-None
 returns-in-None t c = λ M some all. build_none M _ _ c.args.ops some c.in-None.ensures.0 (trim_first _)

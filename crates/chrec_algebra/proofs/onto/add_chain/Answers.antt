@@ -1,4 +1,5 @@
 use Rattle.std.proofs.Common.{arith, ◌^◌, ◌≡◌, ap, ◌∙◌, sym, subst}
+use Rattle.scev_tree.specs.Variable.{rank_of}
 use Rattle.std.proofs.lemmas.Nat.{pow_pos}
 use Rattle.scev_tree.specs.Polynomial.{ext, IsCanonical, variable_of}
 use Rattle.scev_tree.specs.Tree.{polynomial_of, polynomials}
@@ -11,16 +12,16 @@ use Rattle.chrec_algebra.proofs.onto.add_chain.Goals as goal
 
 pub add_numbers-requires-clause-places : goal.add_numbers-requires-clause-places
 add_numbers-requires-clause-places c =
-    let x = variable_of c.args.counter c.args.var.0 in
+    let x = rank_of c.args.by.now.x in
     let same : variable_of c.in-Ext.other c.in-Ext.to.0 ≡ x = omega (arith, c.rank.ensures, c.rank-in-Ext.ensures, c.if-rank.true) in
     let is = ap polynomial_of c.in-Ext.is ∙ (polynomial_of_ext c.in-Ext.other c.in-Ext.to c.in-Ext.ops ∙ ap (λ y. ext y (polynomials c.in-Ext.ops)) same) in
-    (x, places_canon (2 ^ c.args.w) x (polynomials c.in-Ext.ops) (subst (IsCanonical (2 ^ c.args.w)) is c.requires.old), c.requires.numbers)
+    (x, places_canon (2 ^ c.args.by.now.w) x (polynomials c.in-Ext.ops) (subst (IsCanonical (2 ^ c.args.by.now.w)) is c.requires.old), c.requires.numbers)
 
 pub returns-then-rank : goal.returns-then-rank
 returns-then-rank c =
-    let x = variable_of c.args.counter c.args.var.0 in
+    let x = rank_of c.args.by.now.x in
     let same : variable_of c.in-Ext.other c.in-Ext.to.0 ≡ x = omega (arith, c.rank.ensures, c.rank-in-Ext.ensures, c.if-rank.true) in
     let is = ap polynomial_of c.in-Ext.is ∙ (polynomial_of_ext c.in-Ext.other c.in-Ext.to c.in-Ext.ops ∙ ap (λ y. ext y (polynomials c.in-Ext.ops)) same) in
-    let canon = places_canon (2 ^ c.args.w) x (polynomials c.in-Ext.ops) (subst (IsCanonical (2 ^ c.args.w)) is c.requires.old) in
+    let canon = places_canon (2 ^ c.args.by.now.w) x (polynomials c.in-Ext.ops) (subst (IsCanonical (2 ^ c.args.by.now.w)) is c.requires.old) in
     let added = c.in_ok-add_numbers-in-Ext.ensures in
-    subst (λ p. IsAddedIn (2 ^ c.args.w) c.args.c x (polynomial_of c.rebuild.result) p (numbers c.args.vs.now)) (sym is) (added_numbers (2 ^ c.args.w) c.args.c c.args.count x _ _ _ _ (pow_pos c.args.w) c.requires.rest canon added (c.rebuild.ensures (2 ^ c.args.w) (pow_pos c.args.w) (added.canon x canon c.requires.numbers)))
+    subst (λ p. IsAddedIn (2 ^ c.args.by.now.w) c.args.by.now.c x (polynomial_of c.rebuild.result) p (numbers c.args.vs.now)) (sym is) (added_numbers (2 ^ c.args.by.now.w) c.args.by.now.c c.args.count x _ _ _ _ (pow_pos c.args.by.now.w) c.requires.rest canon added (c.rebuild.ensures (2 ^ c.args.by.now.w) (pow_pos c.args.by.now.w) (added.canon x canon c.requires.numbers)))

@@ -32,7 +32,7 @@ places_value-tree_value-requires t c = (omega (arith, lighter c.args.ts.now c.lo
 pub places_value-loop-k-preserved : goal.places_value-loop-k-preserved
 places_value-loop-k-preserved t c =
     let env = numbers (number_in c.args.env.now) (number_in c.args.counters.now) in
-    let f = c.factor-times.ensures ∙ ap (λ z. z % 2 ^ c.args.w) (worth_is env c.args.counter c.args.var.0 c.loop-k.k c.args.n c.requires.number) in
+    let f = c.factor-times.ensures ∙ ap (λ z. z % 2 ^ c.args.w) (worth_is env c.args.x.counter c.args.x.label.0 c.loop-k.k c.args.n c.requires.number) in
     c.add-sum.ensures ∙ (ap (λ z. (c.loop-k.sum + z) % 2 ^ c.args.w) c.mul.ensures ∙ values_step env (2 ^ c.args.w) _ c.args.ts.now c.loop-k.k c.index-ts-k.result _ _ _ c.loop-k-test.true c.index-ts-k.is c.loop-k.invariant c.tree_value.ensures f)
 
 pub places_value-returns : goal.places_value-returns

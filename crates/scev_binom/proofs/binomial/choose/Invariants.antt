@@ -1,5 +1,6 @@
 use Rattle.std.proofs.Common.{◌≡◌, ◌*◌, ◌%◌, ◌^◌}
-use Rattle.scev_binom.specs.Binomial.{binomial, factorial}
+use Rattle.arith_word.specs.Binomial.{binomial}
+use Rattle.scev_binom.specs.Binomial.{factorial}
 use Rattle.scev_binom.proofs.binomial.choose.Given as goal
 
 abbrev pub invariant-loop-i : goal.invariant-loop-i

@@ -3,7 +3,7 @@ use Rattle.scev_tree.proofs.Ends.{build_from, build_one, build_none, only_is, no
 use Rattle.scev_tree.proofs.assemble.build.Goals as goal
 
 pub returns-then-len-gt1 : goal.returns-then-len-gt1
-returns-then-len-gt1 c = λ M some all. build_from M c.args.counter c.args.var _ c.from_vec.result _ c.from_vec.ensures (omega arith) c.trim.ensures.same c.trim.ensures.tidy all
+returns-then-len-gt1 c = λ M some all. build_from M c.args.x.counter c.args.x.label _ c.from_vec.result _ c.from_vec.ensures (omega arith) c.trim.ensures.same c.trim.ensures.tidy all
 
 pub returns-in-Some : goal.returns-in-Some
 returns-in-Some c = λ M some all. build_one M _ _ c.trim.new.places.items c.in-Some.only (only_is _ c.pop.new.self.items c.in-Some.only c.in-Some.ensures.items (omega arith)) c.trim.ensures.same all
