@@ -15,7 +15,8 @@ use Rattle.mlir_ir.specs.declared.types.Kind.{Kind, Const, Bin, Cast, Cmp, Selec
 use Rattle.mlir_ir.specs.declared.types.Op.{Op}
 use Rattle.mlir_ir.specs.declared.types.Pack.{Pack}
 use Rattle.mlir_ir.specs.Check.{IsWellFormed}
-use Rattle.mlir_ir.specs.Labels.{label_at, kind_labels, op_labels, ops_labels}
+use Rattle.arith_word.specs.Labels.{label_at}
+use Rattle.mlir_ir.specs.Labels.{kind_labels, op_labels, ops_labels}
 use Rattle.mlir_ir.specs.Rules.{packs_hold}
 use Rattle.mlir_ir.specs.Values.{Value, arg_values, pack_values, result_values, kind_values, ops_values, items_values, body_values, func_values, type_at}
 use Rattle.mlir_ir.specs.Words.{bits_of}

@@ -11,10 +11,13 @@ use Rattle.mlir_ir.specs.declared.types.Func.{Func}
 use Rattle.mlir_ir.specs.declared.types.IrType.{IrType}
 use Rattle.mlir_ir.specs.declared.types.Item.{Item}
 use Rattle.mlir_ir.specs.declared.types.Op.{Op}
-use Rattle.mlir_ir.specs.Labels.{ops_labels, label_at}
+use Rattle.arith_word.specs.Labels.{label_at}
+use Rattle.mlir_ir.specs.Labels.{ops_labels}
 use Rattle.mlir_ir.specs.Values.{Value, arg_values}
-use Rattle.mlir_ir.specs.Rules.{op_rules, arg_rules, head_rules, return_rules, item_limit, label_limit, list_limit, packs_hold}
+use Rattle.mlir_ir.specs.Rules.{op_rules, arg_rules, head_rules, return_rules, packs_hold}
+use Rattle.mlir_ir.specs.Limits.{item_limit, label_limit, arg_limit}
 use Rattle.mlir_ir.specs.Check.{unless, breaks_at, op_breaks, ops_breaks, items_breaks, args_breaks, body_breaks, IsWellFormed, past, past_op, past_ops, past_args, at_item, in_item, op_results, results_of, outer_values, func_begin, is_declaration}
+use Rattle.mlir_ir.proofs.SizedFunctions.{item_labels}
 use Rattle.fresh_scev.specs.Fresh.{items_of}
 use Rattle.fresh_scev.specs.Straight.{HaveLabels}
 
@@ -45,21 +48,9 @@ keeps at in_scope typed counted sized e =
       kept sized at Size (right_none three (unless sized at Size) e),
     )
 
--- an item whose operations have no break is within the limits
-op_fits : (scope : List Value) (nest : _) (at : _) (op : Op) → op_breaks scope nest at op ≡ [] → nest.item_fits ≡ true
-op_fits scope nest at op e =
-    let rules = op_rules scope nest at op.packs op.results op.kind in
-    let sized : rules.sized ≡ true = (keeps at.last rules.in_scope rules.typed rules.counted rules.sized (left_none (breaks_at at.last rules) _ e)).3 in
-    (and_parts _ nest.item_fits (and_parts _ _ sized).0).1
-
+-- an item whose operations have no break keeps the limit of labels
 item_fits : (func k : ℕ) (item : Item) (scope : List Value) (at : _) → ops_breaks scope (in_item k item) at item.ops ≡ [] → ops_labels item.ops ≤ label_limit
-item_fits func k item scope at e = fits item.ops refl e
-  where
-    fits : (ops : List Op) → item.ops ≡ ops → ops_breaks scope (in_item k item) at ops ≡ [] → ops_labels item.ops ≤ label_limit
-    fits [] same e = rw same (omega arith)
-    fits (op ∷ ops) same e =
-        let ok : (nat_le k item_limit && nat_le (ops_labels item.ops) label_limit) ≡ true = op_fits scope (in_item k item) at op (left_none (op_breaks scope (in_item k item) at op) _ e) in
-        leb-true (ops_labels item.ops) label_limit (and_parts (nat_le k item_limit) (nat_le (ops_labels item.ops) label_limit) ok).1
+item_fits func k item scope at e = item_labels k scope at item (rw e tt)
 
 items_fit : (func k : ℕ) (scope : List Value) (at : _) (items : List Item) → items_breaks func k scope at items ≡ [] → HaveLabels items
 items_fit func k scope at [] e = tt
@@ -68,12 +59,12 @@ items_fit func k scope at (item ∷ items) e = (
   items_fit func (k + 1) (scope ++ results_of (label_at func k 0) item.ops) (past_ops item.ops (at_item func k at)) items (right_none (ops_breaks scope (in_item k item) (at_item func k at) item.ops) _ e),
 )
 
-args_fit : (declared : Bool) (n : ℕ) (wanted : List IrType) (scope : List Value) (at : _) (args : List Arg) → n ≤ list_limit → args_breaks declared n wanted scope at args ≡ [] → n + length args ≤ list_limit
+args_fit : (declared : Bool) (n : ℕ) (wanted : List IrType) (scope : List Value) (at : _) (args : List Arg) → n ≤ arg_limit → args_breaks declared n wanted scope at args ≡ [] → n + length args ≤ arg_limit
 args_fit declared n wanted scope at [] le e = omega arith
 args_fit declared n wanted scope at (arg ∷ args) le e =
     let rules = arg_rules declared n wanted scope arg in
     let sized : rules.sized ≡ true = (keeps at.last rules.in_scope rules.typed rules.counted rules.sized (left_none (breaks_at at.last rules) _ e)).3 in
-    let lt : n < list_limit = ltb-true n list_limit (and_parts _ (nat_lt n list_limit) sized).1 in
+    let lt : n < arg_limit = ltb-true n arg_limit (and_parts _ (nat_lt n arg_limit) sized).1 in
     omega (arith, args_fit declared (n + 1) (drop 1 wanted) (scope ++ arg_values at.next (arg ∷ [])) (past 1 0 at) args (omega arith) (right_none (breaks_at at.last rules) _ e))
 
 body_limits : (f : Func) (body : Option Body) → body_breaks f body ≡ [] → (length (items_of body) ≤ item_limit) × HaveLabels (items_of body)
@@ -87,7 +78,7 @@ body_limits f (Some body) e =
     (leb-true (length body.items) item_limit sized, items_fit f.index 1 scope begin body.items (left_none walk _ e))
 
 pub record Limits (f : Func) : Type 0 where
-  pub args : length f.args ≤ list_limit
+  pub args : length f.args ≤ arg_limit
   pub items : length (items_of f.body) ≤ item_limit
   pub labels : HaveLabels (items_of f.body)
 

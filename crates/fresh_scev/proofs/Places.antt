@@ -1,22 +1,13 @@
 -- Where a value's expression stands: by the item and the index in its label.
-use Rattle.std.proofs.Common.{◌≡◌, ℕ, zero, suc, ◌+◌, ◌*◌, ◌/◌, ◌%◌, ◌^◌, ◌<◌, ◌==◌, List, [], ◌∷◌, ◌++◌, length, get_or, slice_get, Option, Some, None, arith, refl, sym, ap, ◌∙◌, true, ◌⊎◌, inl, inr}
-use Rattle.std.proofs.Math.Nat.{div-div-eq-div-mul}
+use Rattle.std.proofs.Common.{◌≡◌, ℕ, zero, suc, ◌<◌, ◌==◌, List, [], ◌∷◌, ◌++◌, length, get_or, slice_get, Option, Some, None, arith, refl, sym, ◌∙◌, true, ◌⊎◌, inl, inr}
 use Rattle.std.proofs.lemmas.Bool.{cases_Bool, eqb-true, eq-eqb}
-use Rattle.std.proofs.lemmas.Nat.{div-add-mod', div-mul-add, mod-mul-add}
 use Rattle.std.proofs.lemmas.Option.{slice_get_past}
 use Rattle.std.proofs.Math.Seq.{get_or-append_seam}
-use Rattle.mlir_ir.specs.Labels.{label_at}
+use Rattle.arith_word.specs.Labels.{item_count, index_count, func_of, item_of, index_of}
+use Rattle.arith_word.proofs.Labels.{label_parts, parts_of}
 use Rattle.fresh_scev.specs.declared.facts.Facts.{Facts}
 use Rattle.fresh_scev.specs.Linear.{Linear}
 use Rattle.fresh_scev.specs.Fresh.{expr_at, with_item, next_label}
-
--- a label is made of its parts
-pub label_parts : (label func k i : ℕ) → label / 2 ^ 24 ≡ func → label / 2 ^ 14 % 2 ^ 10 ≡ k → label % 2 ^ 14 ≡ i → label ≡ label_at func k i
-label_parts label func k i e f g =
-    let low = div-add-mod' label 16384 in
-    let high = div-add-mod' (label / 16384) 1024 in
-    let whole : label / 16384 / 1024 ≡ label / 16777216 = div-div-eq-div-mul label 16384 1024 in
-    omega (arith, low, high, whole, e, f, g)
 
 -- one more element: it is one of those before, or it
 pub last_or_before : (here : List Linear) (e x : Linear) (i : ℕ) → slice_get (here ++ e ∷ []) i ≡ Some x → (slice_get here i ≡ Some x) ⊎ ((x ≡ e) × (i ≡ length here))
@@ -52,22 +43,22 @@ place_in_new (y ∷ items) zero i = refl
 place_in_new (y ∷ items) (suc k) i = place_in_new items k i
 
 -- a value of a function stands at its place
-pub placed : (facts : Facts) (label : ℕ) (x : Linear) → expr_at facts label ≡ Some x → (label / 2 ^ 24 ≡ facts.func) × (slice_get (get_or facts.items (label / 2 ^ 14 % 2 ^ 10) []) (label % 2 ^ 14) ≡ Some x)
+pub placed : (facts : Facts) (label : ℕ) (x : Linear) → expr_at facts label ≡ Some x → (func_of label ≡ facts.func) × (slice_get (get_or facts.items (item_of label) []) (index_of label) ≡ Some x)
 placed facts label x h =
-    elim (cases_Bool (label / 2 ^ 24 == facts.func)) [
-      | inl here ↦ (eqb-true (label / 2 ^ 24) facts.func here, rw here at h)
+    elim (cases_Bool (func_of label == facts.func)) [
+      | inl here ↦ (eqb-true (func_of label) facts.func here, rw here at h)
       | inr other ↦ absurd (let none : ◌≡◌ {A = Option Linear} None (Some x) = rw other at h in cc)
     ]
 
 -- and it is that of the label
-pub place_of : (facts : Facts) (label : ℕ) (x : Linear) → label / 2 ^ 24 ≡ facts.func → slice_get (get_or facts.items (label / 2 ^ 14 % 2 ^ 10) []) (label % 2 ^ 14) ≡ Some x → expr_at facts label ≡ Some x
-place_of facts label x e h = let here : (label / 2 ^ 24 == facts.func) ≡ true = eq-eqb (label / 2 ^ 24) facts.func e in rw here h
+pub place_of : (facts : Facts) (label : ℕ) (x : Linear) → func_of label ≡ facts.func → slice_get (get_or facts.items (item_of label) []) (index_of label) ≡ Some x → expr_at facts label ≡ Some x
+place_of facts label x e h = let here : (func_of label == facts.func) ≡ true = eq-eqb (func_of label) facts.func e in rw here h
 
 -- with one more value
 pub found : (facts : Facts) (here : List Linear) (e x : Linear) (label : ℕ) → expr_at (with_item facts (here ++ e ∷ [])) label ≡ Some x → (expr_at (with_item facts here) label ≡ Some x) ⊎ ((x ≡ e) × (label ≡ next_label facts here))
 found facts here e x label h =
     let p = placed (with_item facts (here ++ e ∷ [])) label x h in
-    elim (place_or_before facts.items here e x (label / 2 ^ 14 % 2 ^ 10) (label % 2 ^ 14) p.1) [
+    elim (place_or_before facts.items here e x (item_of label) (index_of label) p.1) [
       | inl before ↦ inl (place_of (with_item facts here) label x p.0 before)
       | inr last ↦ inr (last.0, label_parts label facts.func (length facts.items) (length here) p.0 last.1 last.2)
     ]
@@ -75,33 +66,23 @@ found facts here e x label h =
 pub expr_at-new : (facts : Facts) (label : ℕ) (x : Linear) → expr_at (with_item facts []) label ≡ Some x → expr_at facts label ≡ Some x
 expr_at-new facts label x h =
     let p = placed (with_item facts []) label x h in
-    place_of facts label x p.0 (sym (place_in_new facts.items (label / 2 ^ 14 % 2 ^ 10) (label % 2 ^ 14)) ∙ p.1)
-
--- the parts of a label that is made of them
-pub parts_of : (func k i : ℕ) → k < 2 ^ 10 → i < 2 ^ 14 → (label_at func k i / 2 ^ 24 ≡ func) × (label_at func k i / 2 ^ 14 % 2 ^ 10 ≡ k) × (label_at func k i % 2 ^ 14 ≡ i)
-parts_of func k i lo hi =
-    let whole : label_at func k i ≡ (func * 1024 + k) * 16384 + i = omega arith in
-    let item : label_at func k i / 16384 ≡ func * 1024 + k = ap (λ n. n / 16384) whole ∙ div-mul-add (func * 1024 + k) 16384 i hi in (
-      sym (div-div-eq-div-mul (label_at func k i) 16384 1024) ∙ ap (λ n. n / 1024) item ∙ div-mul-add func 1024 k lo,
-      ap (λ n. n % 1024) item ∙ mod-mul-add func 1024 k lo,
-      ap (λ n. n % 16384) whole ∙ mod-mul-add (func * 1024 + k) 16384 i hi,
-    )
+    place_of facts label x p.0 (sym (place_in_new facts.items (item_of label) (index_of label)) ∙ p.1)
 
 last_of : (here : List Linear) (e : Linear) → slice_get (here ++ e ∷ []) (length here) ≡ Some e
 last_of [] e = refl
 last_of (y ∷ here) e = last_of here e
 
 -- the next label has no value yet, and then the new one
-pub expr_at-next_none : (facts : Facts) (here : List Linear) → length facts.items < 2 ^ 10 → length here < 2 ^ 14 → expr_at (with_item facts here) (next_label facts here) ≡ None
+pub expr_at-next_none : (facts : Facts) (here : List Linear) → length facts.items < item_count → length here < index_count → expr_at (with_item facts here) (next_label facts here) ≡ None
 expr_at-next_none facts here lo hi =
     let p = parts_of facts.func (length facts.items) (length here) lo hi in
-    let test : (next_label facts here / 2 ^ 24 == facts.func) ≡ true = eq-eqb (next_label facts here / 2 ^ 24) facts.func p.0 in
+    let test : (func_of (next_label facts here) == facts.func) ≡ true = eq-eqb (func_of (next_label facts here)) facts.func p.0 in
     rw (test, p.1, p.2, get_or-append_seam facts.items here [] []) (slice_get_past here (length here) (omega arith))
 
-pub expr_at-next : (facts : Facts) (here : List Linear) (e : Linear) → length facts.items < 2 ^ 10 → length here < 2 ^ 14 → expr_at (with_item facts (here ++ e ∷ [])) (next_label facts here) ≡ Some e
+pub expr_at-next : (facts : Facts) (here : List Linear) (e : Linear) → length facts.items < item_count → length here < index_count → expr_at (with_item facts (here ++ e ∷ [])) (next_label facts here) ≡ Some e
 expr_at-next facts here e lo hi =
     let p = parts_of facts.func (length facts.items) (length here) lo hi in
-    let test : (next_label facts here / 2 ^ 24 == facts.func) ≡ true = eq-eqb (next_label facts here / 2 ^ 24) facts.func p.0 in
+    let test : (func_of (next_label facts here) == facts.func) ≡ true = eq-eqb (func_of (next_label facts here)) facts.func p.0 in
     rw (test, p.1, p.2, get_or-append_seam facts.items (here ++ e ∷ []) [] []) (last_of here e)
 
 last_apart : (here : List Linear) (e : Linear) (i : ℕ) → (i ≡ length here → ⊥) → slice_get (here ++ e ∷ []) i ≡ slice_get here i
@@ -119,26 +100,26 @@ place_apart (y ∷ items) here e (suc k) i apart = place_apart items here e k i 
 -- the new value changes no other
 pub expr_at-other : (facts : Facts) (here : List Linear) (e : Linear) (label : ℕ) → (label ≡ next_label facts here → ⊥) → expr_at (with_item facts (here ++ e ∷ [])) label ≡ expr_at (with_item facts here) label
 expr_at-other facts here e label apart =
-    elim (cases_Bool (label / 2 ^ 24 == facts.func)) [
+    elim (cases_Bool (func_of label == facts.func)) [
       | inl test ↦
-          let func = eqb-true (label / 2 ^ 24) facts.func test in
-          rw test (place_apart facts.items here e (label / 2 ^ 14 % 2 ^ 10) (label % 2 ^ 14) (λ k i. apart (label_parts label facts.func (length facts.items) (length here) func k i)))
+          let func = eqb-true (func_of label) facts.func test in
+          rw test (place_apart facts.items here e (item_of label) (index_of label) (λ k i. apart (label_parts label facts.func (length facts.items) (length here) func k i)))
       | inr test ↦ rw test refl
     ]
 
 -- an item without values changes nothing
 pub expr_at-empty : (facts : Facts) (label : ℕ) → expr_at (with_item facts []) label ≡ expr_at facts label
 expr_at-empty facts label =
-    elim (cases_Bool (label / 2 ^ 24 == facts.func)) [
-      | inl test ↦ rw test (place_in_new facts.items (label / 2 ^ 14 % 2 ^ 10) (label % 2 ^ 14))
+    elim (cases_Bool (func_of label == facts.func)) [
+      | inl test ↦ rw test (place_in_new facts.items (item_of label) (index_of label))
       | inr test ↦ rw test refl
     ]
 
 -- where there is no item but an empty one, there is no value
 pub expr_at-nothing : (func label : ℕ) → expr_at (record { func = func; items = [] ∷ [] }) label ≡ None
 expr_at-nothing func label =
-    elim (cases_Bool (label / 2 ^ 24 == func)) [
-      | inl test ↦ rw test (nothing (label / 2 ^ 14 % 2 ^ 10) (label % 2 ^ 14))
+    elim (cases_Bool (func_of label == func)) [
+      | inl test ↦ rw test (nothing (item_of label) (index_of label))
       | inr test ↦ rw test refl
     ]
   where

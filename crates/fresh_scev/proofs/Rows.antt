@@ -17,7 +17,8 @@ use Rattle.mlir_ir.specs.declared.types.Kind.{Kind, Const, Bin, Cast, Cmp, Selec
 use Rattle.mlir_ir.specs.declared.types.Op.{Op}
 use Rattle.mlir_ir.specs.declared.shape.Shape.{Shape}
 use Rattle.mlir_ir.specs.Check.{IsWellFormed, breaks_at, op_breaks, ops_breaks, items_breaks, args_breaks, body_breaks, past_op, past_ops, past_args, at_item, in_item, op_results, results_of, func_begin, is_declaration}
-use Rattle.mlir_ir.specs.Labels.{label_at, kind_labels, op_labels, ops_labels}
+use Rattle.arith_word.specs.Labels.{label_at}
+use Rattle.mlir_ir.specs.Labels.{kind_labels, op_labels, ops_labels}
 use Rattle.mlir_ir.specs.Rules.{op_rules, head_rules, operands, are_in_scope, is_in_scope, is_kind_typed, is_kind_counted, has_type, same_type, agree, gives_type_of, may_wrap, has_flags, packs_hold}
 use Rattle.mlir_ir.specs.Values.{Value, arg_values, result_values, ops_values, type_at}
 use Rattle.mlir_ir.specs.Words.{bits_of}

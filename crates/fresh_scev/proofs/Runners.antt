@@ -10,7 +10,8 @@ use Rattle.mlir_ir.specs.declared.types.Item.{Item}
 use Rattle.mlir_ir.specs.declared.types.Kind.{Kind, Const, Bin, Cast, Cmp, Select, Call, If', For, While}
 use Rattle.mlir_ir.specs.declared.types.Op.{Op}
 use Rattle.mlir_ir.specs.Check.{IsWellFormed}
-use Rattle.mlir_ir.specs.Labels.{label_at, kind_labels, op_labels, ops_labels}
+use Rattle.arith_word.specs.Labels.{label_at}
+use Rattle.mlir_ir.specs.Labels.{kind_labels, op_labels, ops_labels}
 use Rattle.mlir_ir.specs.Words.{bits_of}
 use Rattle.fresh_scev.specs.declared.facts.Facts.{Facts}
 use Rattle.fresh_scev.specs.Linear.{Linear, symbol_expr}
@@ -19,7 +20,8 @@ use Rattle.fresh_scev.specs.Run.{AreComputed, RunsOps, RunsItems, IsRun}
 use Rattle.fresh_scev.specs.Straight.{holds_no_region, item_holds_no_region, is_straight_line, HaveLabels}
 use Rattle.fresh_scev.specs.Values.{value}
 use Rattle.fresh_scev.proofs.Limits.{limits}
-use Rattle.fresh_scev.proofs.Places.{found, expr_at-new, placed, label_parts}
+use Rattle.arith_word.proofs.Labels.{label_parts}
+use Rattle.fresh_scev.proofs.Places.{found, expr_at-new, placed}
 use Rattle.fresh_scev.proofs.Runs.{Holds, IsValue, is_symbol, is_kind}
 use Rattle.fresh_scev.proofs.Walks.{length-with_result, length-with_results}
 

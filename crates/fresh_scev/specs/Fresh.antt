@@ -1,5 +1,5 @@
 -- The expression of each value of a function whose operations hold no regions, by recursion on its operations.
-use Rattle.std.specs.Prelude.{ℕ, ◌+◌, ◌/◌, ◌%◌, ◌^◌, ◌==◌, ◌&&◌, List, [], ◌∷◌, ◌++◌, length, slice_get, slice_index_or, Option, Some, None, if◌then◌else◌}
+use Rattle.std.specs.Prelude.{ℕ, ◌+◌, ◌==◌, ◌&&◌, List, [], ◌∷◌, ◌++◌, length, slice_get, slice_index_or, Option, Some, None, if◌then◌else◌}
 use Rattle.std.specs.Option.{unwrap_or}
 use Rattle.arith_word.specs.declared.op.BinOp.{BinOp}
 use Rattle.arith_word.specs.declared.op.BinOp.TheVariants.{Addi, Subi, Muli}
@@ -10,7 +10,7 @@ use Rattle.mlir_ir.specs.declared.types.IrType.{IrType}
 use Rattle.mlir_ir.specs.declared.types.Item.{Item}
 use Rattle.mlir_ir.specs.declared.types.Kind.{Kind, Const, Bin}
 use Rattle.mlir_ir.specs.declared.types.Op.{Op}
-use Rattle.mlir_ir.specs.Labels.{label_at}
+use Rattle.arith_word.specs.Labels.{label_at, func_of, item_of, index_of}
 use Rattle.mlir_ir.specs.Words.{bits_of}
 use Rattle.fresh_scev.specs.declared.facts.Facts.{Facts}
 use Rattle.fresh_scev.specs.Linear.{Linear, number_expr, symbol_expr, sum, difference, product}
@@ -18,7 +18,7 @@ use Rattle.fresh_scev.specs.Linear.{Linear, number_expr, symbol_expr, sum, diffe
 -- the expression of the value with that label, by the item and the index that the label names
 abbrev pub expr_at : Facts → ℕ → Option Linear
 expr_at facts label =
-    if label / 2 ^ 24 == facts.func then slice_get (slice_index_or facts.items (label / 2 ^ 14 % 2 ^ 10) []) (label % 2 ^ 14) else None
+    if func_of label == facts.func then slice_get (slice_index_or facts.items (item_of label) []) (index_of label) else None
 
 -- the facts of the items so far, and of the item under way
 abbrev pub with_item : Facts → List Linear → Facts

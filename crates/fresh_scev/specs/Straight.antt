@@ -5,7 +5,7 @@ use Rattle.mlir_ir.specs.declared.types.Func.{Func}
 use Rattle.mlir_ir.specs.declared.types.Item.{Item}
 use Rattle.mlir_ir.specs.declared.types.Kind.{Kind, If', For, While}
 use Rattle.mlir_ir.specs.Labels.{ops_labels}
-use Rattle.mlir_ir.specs.Rules.{label_limit}
+use Rattle.mlir_ir.specs.Limits.{label_limit}
 use Rattle.fresh_scev.specs.Fresh.{items_of}
 
 abbrev pub holds_no_region : Kind → Bool

@@ -8,7 +8,8 @@ use Rattle.mlir_ir.specs.declared.types.IrType.{IrType}
 use Rattle.mlir_ir.specs.declared.types.Item.{Item}
 use Rattle.mlir_ir.specs.declared.types.Kind.{Kind, Const, Bin}
 use Rattle.mlir_ir.specs.declared.types.Op.{Op}
-use Rattle.mlir_ir.specs.Labels.{label_at, kind_labels, op_labels}
+use Rattle.arith_word.specs.Labels.{label_at}
+use Rattle.mlir_ir.specs.Labels.{kind_labels, op_labels}
 use Rattle.mlir_ir.specs.Words.{bits_of}
 use Rattle.fresh_scev.specs.Linear.{Linear, number_expr, symbol_expr}
 use Rattle.fresh_scev.specs.Fresh.{op_expr, items_of}

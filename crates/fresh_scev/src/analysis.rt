@@ -1,6 +1,7 @@
 ghost use Rattle.std.specs.Prelude.{◌≡◌, ◌+◌, ◌<◌, ◌≤◌, ◌^◌, ◌%◌, ℕ, IfOk, IfSome, IsTrue, OnOk, [], length};
 ghost use Rattle.std.specs.Option.{option_copied, option_map};
-ghost use Rattle.mlir_ir.specs.Labels.{ops_labels, label_at};
+ghost use Rattle.arith_word.specs.Labels.{item_count, index_count, label_at};
+ghost use Rattle.mlir_ir.specs.Labels.{ops_labels};
 ghost use Rattle.mlir_ir.specs.Values.{func_values, type_at};
 ghost use Rattle.mlir_ir.specs.Words.{bits_of};
 ghost use Rattle.fresh_scev.specs.Fresh.{expr_at, with_item};
@@ -33,15 +34,13 @@ fn width_of(ty: IrType) -> Width
 fn find<'a>(facts: &'a Facts, here: &'a Items<Expr>, v: Label) -> Option<&'a Expr>
     ensures { option_copied result ≡ expr_at (with_item facts.entry.now here.entry.now) v.0 }
 {
-    let label = v.0;
-    let item = (label / (1 << 14) % (1 << 10)) as usize;
-    if item != facts.items.len() {
+    if v.item() != facts.items.len() {
         return facts.expr(v);
     }
-    if label / (1 << 24) != facts.func as u32 {
+    if v.func() != facts.func {
         return None;
     }
-    here.get((label % (1 << 14)) as usize)
+    here.get(v.index())
 }
 
 /// The rules for sums, differences and products; else a value is its own symbol.
@@ -107,15 +106,13 @@ fn push_results(
     kind: &Kind,
     results: &[IrType],
 ) -> Result<(), AllocError>
-    requires items { length facts.now.items < 2 ^ 10 }
-    requires labels { length here.old + length results.now ≤ 2 ^ 14 }
+    requires items { length facts.now.items < item_count }
+    requires labels { length here.old + length results.now ≤ index_count }
     ensures { OnOk result (here.new ≡ fresh.with_results facts.now kind.now here.old results.now) }
 {
     for ty in results {
-        let label = facts.func as u32 * (1 << 24)
-            + facts.items.len() as u32 * (1 << 14)
-            + here.len() as u32;
-        let own = Expr::symbol(alloc, width_of(*ty), Label(label))?;
+        let label = Label::new(facts.func, facts.items.len(), here.len());
+        let own = Expr::symbol(alloc, width_of(*ty), label)?;
         let expr = kind_expr(alloc, facts, here, own, kind)?;
         here.push(expr)?;
     }
@@ -124,8 +121,8 @@ fn push_results(
 
 /// The expressions of the values of an item, by those of the items before.
 fn item_exprs(alloc: Global, facts: &Facts, item: &Item) -> Result<Items<Expr>, AllocError>
-    requires items { length facts.now.items < 2 ^ 10 }
-    requires labels { ops_labels item.now.ops ≤ 2 ^ 14 }
+    requires items { length facts.now.items < item_count }
+    requires labels { ops_labels item.now.ops ≤ index_count }
     ensures { IfOk result (λ here. here ≡ fresh.with_ops facts.now [] item.now.ops) }
 {
     let mut here = Items::new(alloc);
@@ -138,20 +135,20 @@ fn item_exprs(alloc: Global, facts: &Facts, item: &Item) -> Result<Items<Expr>, 
 /// The symbols of a function's arguments.
 #[tactic(auto, using(crate::proofs::Walks::args_more))]
 fn arg_exprs(alloc: Global, func: u8, args: &[Arg]) -> Result<Items<Expr>, AllocError>
-    requires { length args.now ≤ 2 ^ 14 }
+    requires { length args.now ≤ index_count }
     ensures { IfOk result (λ exprs. exprs ≡ fresh.arg_exprs (label_at func 0 0) args.now) }
 {
     let mut exprs = Items::new(alloc);
     for arg in args {
-        let label = func as u32 * (1 << 24) + exprs.len() as u32;
-        exprs.push(Expr::symbol(alloc, width_of(arg.ty), Label(label))?)?;
+        let label = Label::new(func, 0, exprs.len());
+        exprs.push(Expr::symbol(alloc, width_of(arg.ty), label)?)?;
     }
     Ok(exprs)
 }
 
 /// Adds the facts of the items.
 fn push_items(alloc: Global, facts: &mut Facts, items: &[Item]) -> Result<(), AllocError>
-    requires items { length facts.old.items + length items.now ≤ 2 ^ 10 }
+    requires items { length facts.old.items + length items.now ≤ item_count }
     requires labels { HaveLabels items.now }
     ensures { OnOk result (facts.new ≡ fresh.with_items facts.old items.now) }
 {

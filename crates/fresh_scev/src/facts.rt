@@ -19,12 +19,11 @@ impl Facts {
     pub fn expr(&self, v: Label) -> Option<&Expr>
         ensures { option_copied result ≡ expr_at self.now v.0 }
     {
-        let label = v.0;
-        if label / (1 << 24) != self.func as u32 {
+        if v.func() != self.func {
             return None;
         }
-        match self.items.get((label / (1 << 14) % (1 << 10)) as usize) {
-            Some(exprs) => exprs.get((label % (1 << 14)) as usize),
+        match self.items.get(v.item()) {
+            Some(exprs) => exprs.get(v.index()),
             None => None,
         }
     }

@@ -1,6 +1,7 @@
 //! Expressions worked by hand.
 
 ghost use Rattle.std.specs.Prelude.{◌≡◌, ◌<◌, IfOk};
+ghost use Rattle.arith_word.specs.Labels.{item_count};
 
 use super::*;
 use arith_word::{BinOp, Label, List, Text, Width};
@@ -111,10 +112,10 @@ fn multiples(rt: HostRuntime) -> Result<(), Fail> {
 }
 
 /// The label of the result of an item.
-fn result_of(item: u32) -> Label
-    requires { item < 1024 }
+fn result_of(item: usize) -> Label
+    requires { item < item_count }
 {
-    Label(item * 16384)
+    Label::new(0, item, 0)
 }
 
 fn arg(alloc: Global, name: &str, ty: IrType) -> Result<Arg, AllocError> {
@@ -205,7 +206,7 @@ fn facts_of_a_function(rt: HostRuntime) -> Result<(), Fail> {
     assert!(rt;
         facts
             .expr(result_of(5))
-            .is_some_and(|e| shows(e, 0, &[(81920, 1)]))
+            .is_some_and(|e| shows(e, 0, &[(result_of(5).0, 1)]))
     );
     assert!(rt; facts.expr(Label(2)).is_none());
     assert!(rt; facts.expr(result_of(6)).is_none());

@@ -8,7 +8,7 @@ use Rattle.mlir_ir.specs.declared.types.Body.{Body}
 use Rattle.mlir_ir.specs.declared.types.Func.{Func}
 use Rattle.mlir_ir.specs.declared.types.Item.{Item}
 use Rattle.mlir_ir.specs.Check.{first, past_ops, results_of, ops_breaks, items_breaks, items_results, past_items, at_item, in_item, past_args, func_begin, body_breaks, breaks_at, outer_values}
-use Rattle.mlir_ir.specs.Labels.{label_at}
+use Rattle.arith_word.specs.Labels.{label_at}
 use Rattle.mlir_ir.specs.Rules.{return_rules}
 use Rattle.mlir_ir.specs.Values.{Value, arg_values}
 use Rattle.mlir_ir.proofs.Steps.{first_append}

@@ -1,4 +1,4 @@
--- What a branch is as a tree.
+-- A branch of the program as a parse tree.
 use Rattle.std.proofs.Common.{◌≡◌, ℕ, List, [], ◌∷◌, refl, ap, ◌∙◌, sym}
 use Rattle.mlir_ir.specs.declared.syntax.Branch.{Branch, Branch', Row_of-Branch, end_of-Branch, more_of-Branch, items-the_row-Branch, out-Branch, items_shown-the_row-Branch-0}
 use Rattle.mlir_ir.specs.Trees.{Forest, none, node, join, put, row_forest, forest}
@@ -7,7 +7,7 @@ pub row_forest-items : (n : _) (row : Row_of-Branch n) → row_forest row ≡ fo
 row_forest-items n end_of-Branch = refl
 row_forest-items n (more_of-Branch b rest) = ap (put b) (row_forest-items _ rest)
 
--- a branch with its parts as a list
+-- a branch by its list of children
 pub put_is : (b : Branch) (rest : Forest) → put b rest ≡ node (out-Branch b).form (out-Branch b).token (forest (out-Branch b).parts.items) rest
 unfolding out-Branch denote.Hole.Carrier.out Rattle.mlir_ir.specs.declared.syntax.Branch.TheBlock.shown-the_row-Branch-0
 put_is (Branch' form at shape row) rest =

@@ -9,7 +9,8 @@ use Rattle.mlir_ir.specs.declared.types.Item.{Item}
 use Rattle.mlir_ir.specs.declared.types.Op.{Op}
 use Rattle.mlir_ir.specs.declared.types.Pack.{Pack}
 use Rattle.mlir_ir.specs.Check.{results_of, op_results, items_results}
-use Rattle.mlir_ir.specs.Labels.{label_at, kind_labels, op_labels}
+use Rattle.arith_word.specs.Labels.{label_at}
+use Rattle.mlir_ir.specs.Labels.{kind_labels, op_labels}
 use Rattle.mlir_ir.specs.Rules.{has_name}
 use Rattle.mlir_ir.specs.Scope.{packs_name, args_name, ops_name, items_name}
 use Rattle.mlir_ir.specs.Values.{Value, arg_values, pack_values, result_values}

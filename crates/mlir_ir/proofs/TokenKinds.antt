@@ -1,4 +1,4 @@
--- The kind of a token is told by its first byte.
+-- The first byte of a token determines its kind.
 use Rattle.std.proofs.Common.{◌≡◌, ℕ, Bool, true, false, ◌&&◌, ◌||◌, ◌==◌, List, [], ◌∷◌, refl, ◌∙◌, arith, inl, inr, sym, ap, Option, Some, None, if◌then◌else◌}
 use Rattle.std.specs.List.{list_all}
 use Rattle.std.proofs.lemmas.Bool.{and_parts, or_cases, eqb-true}
@@ -33,7 +33,7 @@ digit_kind b digit =
     let no_pick : (b == 35) ≡ false = grind (arith, nat_tests) in
     rw (no_word, no_value, no_symbol, no_caret, no_pick, digit) refl
 
--- the kind at each byte of a mark
+-- the kind of each byte of punctuation
 mark_kind : (b : ℕ) → is_mark_byte b ≡ true → kind_by b ≡ Some Mark
 mark_kind b mark =
     let no_word : begins_word b ≡ false = grind (arith, nat_tests) in
@@ -53,7 +53,7 @@ kind_by_begins Pick b first = ap kind_by (eqb-true b 35 first)
 kind_by_begins Number b first = digit_kind b first
 kind_by_begins Mark b first = mark_kind b first
 
--- one byte begins tokens of one kind alone
+-- tokens that begin with the same byte have the same kind
 pub one_kind : (kind other : TokenKind) (b : ℕ) → begins kind b ≡ true → begins other b ≡ true → kind ≡ other
 one_kind kind other b first second =
     let both : Some kind ≡ Some other = sym (kind_by_begins kind b first) ∙ kind_by_begins other b second in

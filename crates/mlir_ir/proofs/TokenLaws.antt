@@ -1,4 +1,4 @@
--- A text has one token list, or a fault, and never both.
+-- A text has at most one token list, and none where it has a lexical error.
 use Rattle.std.proofs.Common.{suc, zero, ◌≡◌, ℕ, ◌+◌, ◌-◌, ◌<◌, ◌≤◌, Bool, true, false, List, [], ◌∷◌, length, take, drop, refl, ap, ◌∙◌, sym, subst, arith, inl, inr, not, ◌==◌, ◌&&◌, length-drop}
 use Rattle.std.proofs.lemmas.Bool.{both_ways, cases_order, cases_Bool}
 use Rattle.mlir_ir.specs.Tokens.{behind_gap, is_token, IsFront, NoneBegins, Lexes, IsTokenAt, AreTokens, IsLexFault, is_blank, is_next}
@@ -19,7 +19,7 @@ same_length bs kind other m n first second =
       | inr (inr more) ↦ absurd (both_ways (is_token kind (take m bs)) (second.longest kind m more first.within) first.whole)
     ]
 
--- the longest token at the front is one
+-- bytes begin with at most one longest token
 pub one_token : (at : ℕ) (bs : List ℕ) (t u : Token) → IsTokenAt at bs t → IsTokenAt at bs u → t ≡ u
 one_token at bs t u p q =
     let same_len : length t.text ≡ length u.text = same_length bs t.kind u.kind (length t.text) (length u.text) p.front q.front in
@@ -30,15 +30,15 @@ one_token at bs t u p q =
     let same_to : t.to ≡ u.to = p.to ∙ ap (λ n. at + n) same_len ∙ sym q.to in
     λ i. record { kind = kinds i; text = same_text i; from = same_from i; to = same_to i }
 
--- where no token begins none is the longest
-no_front : (bs : List ℕ) (kind : TokenKind) (len : ℕ) → NoneBegins bs → IsFront bs kind len → ⊥
+-- bytes that begin with no token have no longest token
+pub no_front : (bs : List ℕ) (kind : TokenKind) (len : ℕ) → NoneBegins bs → IsFront bs kind len → ⊥
 no_front bs kind len none front = both_ways (is_token kind (take len bs)) (none kind len front.within) front.whole
 
 take_nothing : (len : ℕ) → take {A = ℕ} len [] ≡ []
 take_nothing zero = refl
 take_nothing (suc len) = refl
 
--- no token stands at the end
+-- no token begins at the end of the text
 no_token_at : (at : ℕ) (bs : List ℕ) (t : Token) → bs ≡ [] → IsTokenAt at bs t → ⊥
 no_token_at at bs t none is =
     let whole : is_token t.kind [] ≡ true = ap (is_token t.kind) (sym (ap (take (length t.text)) none ∙ take_nothing (length t.text))) ∙ is.front.whole in
@@ -55,11 +55,11 @@ one_list at bs (t ∷ ts) (u ∷ us) p q r s h e k f =
     let rest = one_list t.to (drop (length t.text) (behind_gap false bs)) ts us p q r s h.1 e (subst P (sym same_token) k.1) f in
     ap (λ x. x ∷ ts) same_token ∙ ap (λ xs. u ∷ xs) rest
 
--- the law: a text has at most one token list
+-- a text has at most one token list
 pub at_most_one : (text : List ℕ) (ts us : List Token) → AreTokens text ts → AreTokens text us → ts ≡ us
 at_most_one text ts us a b = one_list 0 text ts us a.place b.place a.rest b.rest a.front a.end b.front b.end
 
--- where the front tokens stop, no longer list goes on
+-- a token list that reaches the end excludes a lexical error
 no_fault : (at : ℕ) (bs : List ℕ) (ts us : List Token) (p q : ℕ) (r s : List ℕ)
     → Lexes at bs ts p r → behind_gap false r ≡ [] → Lexes at bs us q s → 0 < length (behind_gap false s) → NoneBegins (behind_gap false s) → ⊥
 no_fault at bs [] [] p q r s h e k more f = omega (arith, more, ap length (ap (behind_gap false) (sym k.1) ∙ ap (behind_gap false) h.1 ∙ e))
@@ -71,11 +71,12 @@ no_fault at bs (t ∷ ts) (u ∷ us) p q r s h e k more f =
     let P : Token → Type 0 = λ x. Lexes x.to (drop (length x.text) (behind_gap false bs)) us q s in
     no_fault t.to (drop (length t.text) (behind_gap false bs)) ts us p q r s h.1 e (subst P (sym same_token) k.1) more f
 
--- the law: a text with a fault has no token list
+-- a text with a lexical error has no token list
 pub not_both : (text : List ℕ) (ts : List Token) (at : ℕ) → AreTokens text ts → IsLexFault text at → ⊥
 not_both text ts at a b = no_fault 0 text ts b.tokens a.place b.place a.rest b.rest a.front a.end b.front b.more b.none
 
-gap_shorter : (comment : Bool) (bs : List ℕ) → length (behind_gap comment bs) ≤ length bs
+-- whitespace and comments are part of the bytes
+pub gap_shorter : (comment : Bool) (bs : List ℕ) → length (behind_gap comment bs) ≤ length bs
 gap_shorter true [] = omega arith
 gap_shorter false [] = omega arith
 gap_shorter true (b ∷ bs) = omega (arith, gap_shorter (not (b == 10)) bs)
@@ -88,8 +89,8 @@ gap_shorter false (b ∷ bs) =
       ]
     ]
 
--- a token has a byte
-some_bytes : (bs : List ℕ) (kind : TokenKind) (len : ℕ) → IsFront bs kind len → 0 < len
+-- a token has at least one byte
+pub some_bytes : (bs : List ℕ) (kind : TokenKind) (len : ℕ) → IsFront bs kind len → 0 < len
 some_bytes bs kind zero front = absurd (both_ways (is_token kind []) (no_token kind) front.whole)
 some_bytes bs kind (suc len) front = omega arith
 
@@ -101,6 +102,6 @@ few_tokens at bs (t ∷ ts) place rest h =
     let more = few_tokens t.to (drop (length t.text) (behind_gap false bs)) ts place rest h.1 in
     omega (arith, here, some, more, h.0.front.within, length-drop (length t.text) (behind_gap false bs))
 
--- the law: a text has no more tokens than bytes
+-- a text has no more tokens than bytes
 pub token_count : (text : List ℕ) (ts : List Token) → AreTokens text ts → length ts ≤ length text
 token_count text ts a = few_tokens 0 text ts a.place a.rest a.front

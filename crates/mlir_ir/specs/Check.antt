@@ -17,9 +17,12 @@ use Rattle.mlir_ir.specs.declared.types.WhileParts.{WhileParts, WhileParts'}
 use Rattle.mlir_ir.specs.declared.rules.Nest.{Nest}
 use Rattle.mlir_ir.specs.declared.rules.Position.{Position}
 use Rattle.mlir_ir.specs.declared.rules.Rules.{Rules}
-use Rattle.mlir_ir.specs.Labels.{label_at, row_labels, region_labels, kind_labels, op_labels, ops_labels}
+use Rattle.arith_word.specs.Labels.{label_at}
+use Rattle.mlir_ir.specs.Labels.{row_labels, region_labels, kind_labels, op_labels, ops_labels}
+use Rattle.mlir_ir.specs.Limits.{item_limit, label_limit, region_limit}
 use Rattle.mlir_ir.specs.Values.{Value, arg_values, result_values}
-use Rattle.mlir_ir.specs.Rules.{op_rules, arg_rules, head_rules, yield_rules, turn_rules, condition_rules, return_rules, arg_types, item_limit, label_limit}
+use Rattle.mlir_ir.specs.Within.{ops_labels_within}
+use Rattle.mlir_ir.specs.Rules.{op_rules, arg_rules, head_rules, yield_rules, turn_rules, condition_rules, return_rules, arg_types}
 
 -- how many operations there are
 abbrev mutual
@@ -173,12 +176,13 @@ abbrev pub ops_breaks : List Value → Nest → Position → List Op → List Sh
 ops_breaks scope nest at [] = []
 ops_breaks scope nest at (op ∷ ops) = op_breaks scope nest at op ++ ops_breaks (scope ++ op_results at.next op) nest (past_op op at) ops
 
--- item number k begins with its own labels; one that passes a limit breaks at its first operation
+-- item number k begins with its own labels; one past the limit of items, or with too many labels, breaks at its first operation. Labels count only
+-- within the regions that may be open: a region nested deeper breaks its own limit, at the operation that opens it
 abbrev pub at_item : ℕ → ℕ → Position → Position
 at_item func k at = record at { next = label_at func k 0 }
 
 abbrev pub in_item : ℕ → Item → Nest
-in_item k item = record { regions = 1; loops = 0; item_fits = nat_le k item_limit && nat_le (ops_labels item.ops) label_limit }
+in_item k item = record { regions = 1; loops = 0; item_fits = nat_le k item_limit && nat_le (ops_labels_within (region_limit - 1) item.ops) label_limit }
 
 -- the items from number k on
 abbrev pub items_breaks : ℕ → ℕ → List Value → Position → List Item → List Shape

@@ -1,10 +1,10 @@
--- The grammar of the texts, line by line: tokens in turn by `~`, once or not at all by `maybe`, any number of times by `many`.
+-- The grammar of modules, one production for each form: `~` is sequence, `maybe` an optional part, `many` repetition.
 use Rattle.mlir_ir.specs.declared.terminal.Terminal.{Terminal}
 use Rattle.mlir_ir.specs.declared.terminal.Terminal.TheVariants.{Module, Function, Private, TypeWord, Return, Constant, Truth, Binary, FlaggedBinary, Cast, FlaggedCast, Compare, Predicate, Select, Call, If, Else, For, To, Step, IterArgs, While, Condition, Do, Yield, Overflow, Nsw, Nuw, Value, Symbol, Caret, Pick, Decimal, Hexadecimal, LeftParen, RightParen, LeftBrace, RightBrace, Less, Greater, Comma, Colon, Equals, Arrow, Minus}
 use Rattle.mlir_ir.specs.declared.syntax.Form.{Form}
 use Rattle.mlir_ir.specs.declared.syntax.Form.TheVariants.{Leaf, Whole, Func, Params, Types, Results, TypeName, Body, Ends, Uses, Use, Op, Pack, Kind, Inits, Region, Flags}
 
--- the right side of a line
+-- the right-hand side of a production
 pub data Pattern : Type 0 where
   nothing : Pattern
   one : Terminal → Pattern
@@ -12,15 +12,15 @@ pub data Pattern : Type 0 where
   both : Pattern → Pattern → Pattern
   either : Pattern → Pattern → Pattern
   many : Pattern → Pattern
-  -- a region: what stands inside its braces
+  -- a region, by what is inside its braces
   region : Pattern → Pattern
 
 infixl 5 ◌~◌
--- one behind the other
+-- the first pattern, then the second
 abbrev pub ◌~◌ : Pattern → Pattern → Pattern
 first ~ second = both first second
 
--- once or not at all
+-- the pattern, or no tokens
 abbrev pub maybe : Pattern → Pattern
 maybe pattern = either pattern nothing
 
@@ -28,19 +28,19 @@ maybe pattern = either pattern nothing
 abbrev pub constant_kind : Pattern
 constant_kind = one Constant ~ either (maybe (one Minus) ~ either (one Decimal) (one Hexadecimal) ~ one Colon ~ line TypeName) (one Truth)
 
--- an operation on two values: BINARY use "," use ":" type
+-- a binary operation without overflow flags: BINARY use "," use ":" type
 abbrev pub binary_kind : Pattern
 binary_kind = one Binary ~ line Use ~ one Comma ~ line Use ~ one Colon ~ line TypeName
 
--- BINARY use "," use [flags] ":" type, for those that take flags
+-- a binary operation that takes overflow flags: BINARY use "," use [flags] ":" type
 abbrev pub flagged_binary_kind : Pattern
 flagged_binary_kind = one FlaggedBinary ~ line Use ~ one Comma ~ line Use ~ maybe (line Flags) ~ one Colon ~ line TypeName
 
--- CAST use ":" type "to" type
+-- a cast without overflow flags: CAST use ":" type "to" type
 abbrev pub cast_kind : Pattern
 cast_kind = one Cast ~ line Use ~ one Colon ~ line TypeName ~ one To ~ line TypeName
 
--- CAST use [flags] ":" type "to" type, for the one that takes flags
+-- a cast that takes overflow flags: CAST use [flags] ":" type "to" type
 abbrev pub flagged_cast_kind : Pattern
 flagged_cast_kind = one FlaggedCast ~ line Use ~ maybe (line Flags) ~ one Colon ~ line TypeName ~ one To ~ line TypeName
 
@@ -72,13 +72,13 @@ before_region = region (many (line Op) ~ one Condition ~ one LeftParen ~ line Us
 abbrev pub after_region : Pattern
 after_region = region (maybe (one Caret ~ maybe (one LeftParen ~ line Params ~ one RightParen) ~ one Colon) ~ many (line Op) ~ one Yield ~ maybe (line Ends))
 
--- "scf.while" ["(" inits ")"] ":" "(" [types] ")" "->" results, the region before a turn, "do", and the region of a turn
+-- "scf.while" ["(" inits ")"] ":" "(" [types] ")" "->" results before_region "do" after_region
 abbrev pub while_kind : Pattern
 while_kind = one While ~ maybe (one LeftParen ~ line Inits ~ one RightParen) ~ one Colon ~ one LeftParen ~ maybe (line Types) ~ one RightParen ~ one Arrow ~ line Results ~ before_region ~ one Do ~ after_region
 
--- the right side of each line; "func" and "flags" have their alternatives joined as far as they begin alike
+-- the production of each form; those of "func" and "flags" are left-factored
 abbrev pub body : Form → Pattern
--- a token is no line
+-- a leaf is a token and has no production
 body Leaf = nothing
 -- text = func {func} | "module" [Symbol] "{" {func} "}" | (nothing)
 body Whole = maybe (either (line Func ~ many (line Func)) (one Module ~ maybe (one Symbol) ~ one LeftBrace ~ many (line Func) ~ one RightBrace))
@@ -104,7 +104,7 @@ body Use = one Value ~ maybe (one Pick)
 body Op = maybe (line Pack ~ many (one Comma ~ line Pack) ~ one Equals) ~ line Kind
 -- pack = Value [":" Number], where the number is decimal
 body Pack = one Value ~ maybe (one Colon ~ one Decimal)
--- kind = one of those above
+-- kind = constant_kind | binary_kind | .. | while_kind
 body Kind = either constant_kind (either binary_kind (either flagged_binary_kind (either cast_kind (either flagged_cast_kind (either compare_kind (either select_kind (either call_kind (either if_kind (either for_kind while_kind)))))))))
 -- inits = Value "=" use {"," Value "=" use}
 body Inits = one Value ~ one Equals ~ line Use ~ many (one Comma ~ one Value ~ one Equals ~ line Use)

@@ -1,15 +1,11 @@
--- Labels: the place of each value and each loop's counter, given in the order of the text. A loop takes
+-- How many labels the parts of a function take. Labels are given in the order of the text. A loop takes
 -- one for its counter before its variables, and results come after the regions of their operation.
-use Rattle.std.specs.Prelude.{ℕ, ◌+◌, ◌*◌, ◌^◌, List, [], ◌∷◌, length}
+use Rattle.std.specs.Prelude.{ℕ, ◌+◌, List, [], ◌∷◌, length}
 use Rattle.mlir_ir.specs.declared.types.Region.{Region, Region', Row_of-Op, end_of-Op, more_of-Op}
 use Rattle.mlir_ir.specs.declared.types.Op.{Op}
 use Rattle.mlir_ir.specs.declared.types.Kind.{Kind, If', For, While, Held-Kind-If-2, None', Some'}
 use Rattle.mlir_ir.specs.declared.types.ForParts.{ForParts, ForParts'}
 use Rattle.mlir_ir.specs.declared.types.WhileParts.{WhileParts, WhileParts'}
-
--- the label with that index in that item of that function
-abbrev pub label_at : ℕ → ℕ → ℕ → ℕ
-label_at func item index = func * 2 ^ 24 + item * 2 ^ 14 + index
 
 -- how many labels are taken
 abbrev mutual

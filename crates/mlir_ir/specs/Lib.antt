@@ -1,5 +1,6 @@
 pub mod Names
 pub mod Labels
+pub mod Limits
 pub mod Values
 pub mod Words
 pub mod Canonical
@@ -14,3 +15,18 @@ pub mod Texts
 pub mod Trees
 pub mod Terminals
 pub mod Syntaxes
+pub mod Operations
+pub mod View
+pub mod Typed
+pub mod Named
+pub mod Sized
+pub mod WellFormed
+pub mod Places
+pub mod Within
+pub mod Runs
+pub mod GrammarNumbers
+pub mod Phrases
+pub mod Source
+pub mod Resolved
+pub mod ScopeFaults
+pub mod Reads

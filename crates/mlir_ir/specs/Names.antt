@@ -16,7 +16,3 @@ is_name_byte b = is_letter b || is_digit b || b == 36 || b == 46 || b == 95 || b
 abbrev pub is_name : List ℕ → Bool
 is_name [] = false
 is_name (b ∷ bs) = if is_digit b then list_all is_digit bs else list_all is_name_byte (b ∷ bs)
-
--- the most bytes of a name
-abbrev pub name_limit : ℕ
-name_limit = 64

@@ -21,28 +21,10 @@ use Rattle.mlir_ir.specs.declared.types.WhileParts.{WhileParts, WhileParts'}
 use Rattle.mlir_ir.specs.declared.rules.Nest.{Nest}
 use Rattle.mlir_ir.specs.declared.rules.Position.{Position}
 use Rattle.mlir_ir.specs.declared.rules.Rules.{Rules}
-use Rattle.mlir_ir.specs.Names.{is_name, name_limit}
+use Rattle.mlir_ir.specs.Limits.{op_limit, item_limit, arg_limit, result_limit, region_limit, loop_limit, name_limit}
+use Rattle.mlir_ir.specs.Names.{is_name}
 use Rattle.mlir_ir.specs.Values.{Value, type_at}
 use Rattle.mlir_ir.specs.Words.{bits_of}
-
--- the limits: of arguments and results, operations, items, labels of an item, open regions, loops in loops
-abbrev pub list_limit : ℕ
-list_limit = 16
-
-abbrev pub op_limit : ℕ
-op_limit = 8192
-
-abbrev pub item_limit : ℕ
-item_limit = 1023
-
-abbrev pub label_limit : ℕ
-label_limit = 16383
-
-abbrev pub region_limit : ℕ
-region_limit = 12
-
-abbrev pub loop_limit : ℕ
-loop_limit = 6
 
 -- names
 
@@ -209,7 +191,7 @@ is_kind_counted results _ = results == 1
 
 -- whether one more region, or one more loop, may open
 abbrev pub is_kind_sized : ℕ → ℕ → Kind → Bool
-is_kind_sized regions loops (Call func uses) = nat_le (length uses) list_limit
+is_kind_sized regions loops (Call func uses) = nat_le (length uses) arg_limit
 is_kind_sized regions loops (If' c first other) = nat_lt regions region_limit
 is_kind_sized regions loops (For parts) = nat_lt regions region_limit && nat_lt loops loop_limit
 is_kind_sized regions loops (While parts) = nat_lt regions region_limit && nat_lt loops loop_limit
@@ -221,7 +203,7 @@ op_rules scope nest at packs results kind = record {
   typed = are_free scope packs && is_kind_typed scope results kind;
   counted = packs_hold packs (length results) && is_kind_counted (length results) kind;
   sized =
-      list_all (λ pack. is_short pack.name) packs && nat_le (length results) list_limit && nat_lt at.ops op_limit && nest.item_fits && is_kind_sized nest.regions nest.loops kind;
+      list_all (λ pack. is_short pack.name) packs && nat_le (length results) result_limit && nat_lt at.ops op_limit && nest.item_fits && is_kind_sized nest.regions nest.loops kind;
 }
 
 -- arguments: number n of its list; a type that it has to have; in a declaration a name may be missing
@@ -230,7 +212,7 @@ arg_rules declared n wanted scope arg = record {
   in_scope = true;
   typed = (is_free scope arg.name || declared && length arg.name == 0) && same_types (arg.ty ∷ []) wanted;
   counted = true;
-  sized = is_short arg.name && nat_lt n list_limit;
+  sized = is_short arg.name && nat_lt n arg_limit;
 }
 
 abbrev pub head_rules : Func → Rules
@@ -238,7 +220,7 @@ head_rules f = record {
   in_scope = true;
   typed = is_name f.name;
   counted = true;
-  sized = is_short f.name && nat_le (length f.results) list_limit;
+  sized = is_short f.name && nat_le (length f.results) result_limit;
 }
 
 -- terminators

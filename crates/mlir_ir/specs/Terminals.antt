@@ -1,4 +1,4 @@
--- What each token is to the grammar.
+-- The terminal of the grammar for each token.
 use Rattle.std.specs.Prelude.{ℕ, ◌||◌, ◌&&◌, ◌==◌, nat_le, Bool, true, false, List, [], ◌∷◌, drop, codes, if◌then◌else◌}
 use Rattle.std.specs.Str.{bytes_eq}
 use Rattle.mlir_ir.specs.Tokens.{is_led, is_next}
@@ -23,17 +23,17 @@ is_integer word = is_led 105 is_width word
 abbrev pub is_type_word : List ℕ → Bool
 is_type_word word = bytes_eq word (codes "index") || is_integer word
 
--- operations on two values that take flags
+-- binary operations that take overflow flags
 abbrev pub is_flagged_binary : List ℕ → Bool
 is_flagged_binary word =
     bytes_eq word (codes "arith.addi") || bytes_eq word (codes "arith.subi") || bytes_eq word (codes "arith.muli") || bytes_eq word (codes "arith.shli")
 
--- operations on two values that take none
+-- binary operations that take no overflow flags
 abbrev pub is_binary : List ℕ → Bool
 is_binary word =
     bytes_eq word (codes "arith.andi") || bytes_eq word (codes "arith.ori") || bytes_eq word (codes "arith.xori") || bytes_eq word (codes "arith.minsi") || bytes_eq word (codes "arith.maxsi") || bytes_eq word (codes "arith.minui") || bytes_eq word (codes "arith.maxui") || bytes_eq word (codes "arith.shrui") || bytes_eq word (codes "arith.shrsi") || bytes_eq word (codes "arith.divui") || bytes_eq word (codes "arith.remui") || bytes_eq word (codes "arith.divsi") || bytes_eq word (codes "arith.remsi")
 
--- casts that take no flags
+-- casts that take no overflow flags
 abbrev pub is_cast : List ℕ → Bool
 is_cast word =
     bytes_eq word (codes "arith.extsi") || bytes_eq word (codes "arith.extui") || bytes_eq word (codes "arith.index_cast") || bytes_eq word (codes "arith.index_castui")
@@ -54,7 +54,7 @@ abbrev pub is_truth : List ℕ → Bool
 is_truth word =
     bytes_eq word (codes "true") || bytes_eq word (codes "false")
 
--- words of the `arith` dialect
+-- the operations of the `arith` dialect
 abbrev pub arith_terminal : List ℕ → Terminal
 arith_terminal word =
     if is_flagged_binary word then FlaggedBinary
@@ -65,7 +65,7 @@ arith_terminal word =
     else (if bytes_eq word (codes "arith.trunci") then FlaggedCast
     else (if is_cast word then Cast else OtherWord))))))
 
--- words of the `scf` dialect
+-- the operations of the `scf` dialect
 abbrev pub scf_terminal : List ℕ → Terminal
 scf_terminal word =
     if bytes_eq word (codes "scf.yield") then Yield
@@ -74,7 +74,7 @@ scf_terminal word =
     else (if bytes_eq word (codes "scf.while") then While
     else (if bytes_eq word (codes "scf.condition") then Condition else OtherWord))))
 
--- words of the `func` dialect and of modules
+-- the words of the `func` dialect and of modules
 abbrev pub func_terminal : List ℕ → Terminal
 func_terminal word =
     if is_return word then Return
@@ -83,7 +83,7 @@ func_terminal word =
     else (if bytes_eq word (codes "private") then Private
     else (if bytes_eq word (codes "module") then Module else OtherWord))))
 
--- words of flags, and predicates
+-- the words of overflow flags, and the predicates of `arith.cmpi`
 abbrev pub flag_terminal : List ℕ → Terminal
 flag_terminal word =
     if bytes_eq word (codes "overflow") then Overflow
@@ -91,7 +91,7 @@ flag_terminal word =
     else (if bytes_eq word (codes "nuw") then Nuw
     else (if is_predicate word then Predicate else OtherWord)))
 
--- words that stand inside operations
+-- the words inside operations
 abbrev pub inner_terminal : List ℕ → Terminal
 inner_terminal word =
     if bytes_eq word (codes "to") then To
@@ -101,21 +101,22 @@ inner_terminal word =
     else (if bytes_eq word (codes "do") then Do
     else (if is_truth word then Truth else flag_terminal word)))))
 
--- the first of two that is no other word
+-- the first of the two terminals, unless it is `OtherWord`
 abbrev pub or_else : Terminal → Terminal → Terminal
 or_else OtherWord second = second
 or_else first second = first
 
+-- the terminal of a bare word
 abbrev pub word_terminal : List ℕ → Terminal
 word_terminal word =
     if is_type_word word then TypeWord
     else or_else (arith_terminal word) (or_else (scf_terminal word) (or_else (func_terminal word) (inner_terminal word)))
 
--- a number with `0x`, or a decimal one
+-- the terminal of a number: hexadecimal with `0x`, else decimal
 abbrev pub number_terminal : List ℕ → Terminal
 number_terminal text = if is_next 120 (drop 1 text) then Hexadecimal else Decimal
 
--- each mark
+-- the terminal of a punctuation token
 abbrev pub mark_terminal : List ℕ → Terminal
 mark_terminal mark =
     if bytes_eq mark (codes "(") then LeftParen
@@ -138,6 +139,6 @@ kind_terminal kinds.Pick text = Pick
 kind_terminal kinds.Number text = number_terminal text
 kind_terminal kinds.Mark text = mark_terminal text
 
--- what the token is to the grammar
+-- the terminal of a token
 abbrev pub terminal_of : Token → Terminal
 terminal_of token = kind_terminal token.kind token.text

@@ -1,12 +1,13 @@
--- The texts of the grammar as lists of terminals, and where a list stops to be the front of one.
+-- The token sequences of modules, as lists of terminals, and the syntax errors of other lists.
 use Rattle.std.specs.Prelude.{ℕ, ◌≡◌, ◌+◌, ◌-◌, ◌<◌, ◌≤◌, Bool, true, false, List, [], ◌∷◌, ◌++◌, length, take, slice_get, Some, if◌then◌else◌}
 use Rattle.mlir_ir.specs.Grammar.{Pattern, nothing, one, line, both, either, many, region, body}
+use Rattle.mlir_ir.specs.Limits.{region_limit}
 use Rattle.mlir_ir.specs.declared.terminal.Terminal.{Terminal}
 use Rattle.mlir_ir.specs.declared.terminal.Terminal.TheVariants.{Module, Function, Private, TypeWord, Return, Constant, Truth, Binary, FlaggedBinary, Cast, FlaggedCast, Compare, Predicate, Select, Call, If, Else, For, To, Step, IterArgs, While, Condition, Do, Yield, Overflow, Nsw, Nuw, OtherWord, LeftBrace, RightBrace}
 use Rattle.mlir_ir.specs.declared.syntax.Form.{Form}
 use Rattle.mlir_ir.specs.declared.syntax.Form.TheVariants.{Whole}
 
--- the list is a text of the first right side, then of the second, and so on
+-- the list matches the first pattern, then the second, and so on to the last
 pub data Accepts : List Pattern → List Terminal → Type 0 where
   ends : Accepts [] []
   no_more : {ss : List Pattern} {ts : List Terminal} → Accepts ss ts → Accepts (nothing ∷ ss) ts
@@ -19,9 +20,11 @@ pub data Accepts : List Pattern → List Terminal → Type 0 where
   enough : {a : Pattern} {ss : List Pattern} {ts : List Terminal} → Accepts ss ts → Accepts (many a ∷ ss) ts
   in_region : {a : Pattern} {ss : List Pattern} {ts : List Terminal} → Accepts (one LeftBrace ∷ a ∷ one RightBrace ∷ ss) ts → Accepts (region a ∷ ss) ts
 
+-- the list is the token sequence of a module
 abbrev pub IsText : List Terminal → Type 0
 IsText ts = Accepts (line Whole ∷ []) ts
 
+-- the list is a prefix of a module's token sequence
 abbrev pub BeginsText : List Terminal → Type 0
 BeginsText ts = (more : List Terminal) × IsText (ts ++ more)
 
@@ -37,28 +40,25 @@ abbrev pub is_module : Terminal → Bool
 is_module Module = true
 is_module _ = false
 
--- how many braces are open behind a token, where so many were before
+-- the number of open braces after a token, from the number before it
 abbrev pub step : ℕ → Terminal → ℕ
 step n t = if opens t then n + 1 else (if closes t then n - 1 else n)
 
+-- the number of open braces after the tokens, from the number before them
 abbrev pub opened : ℕ → List Terminal → ℕ
 opened n [] = n
 opened n (t ∷ ts) = opened (step n t) ts
 
--- how many regions are open behind these tokens; the brace of `module` opens none
+-- the number of open regions after the tokens; the braces of `module` are no region
 abbrev pub regions : List Terminal → ℕ
 regions [] = 0
 regions (t ∷ ts) = if is_module t then opened 0 ts - 1 else opened 0 (t ∷ ts)
 
--- the most regions that may be open at once
-abbrev pub region_limit : ℕ
-region_limit = 12
-
--- at no place more regions are open than may be
+-- no prefix has more open regions than the limit
 abbrev pub IsShallow : List Terminal → Type 0
 IsShallow ts = (k : ℕ) → regions (take k ts) ≤ region_limit
 
--- the first token such that the tokens up to and including it begin no text, or the end of an unfinished text
+-- the index of the first token with which the tokens are no prefix of a module's token sequence, or the number of tokens where they are a proper prefix of one
 pub record IsSyntaxFault (ts : List Terminal) (k : ℕ) : Type 0 where
   pub within : k ≤ length ts
   pub before : BeginsText (take k ts)
@@ -66,14 +66,14 @@ pub record IsSyntaxFault (ts : List Terminal) (k : ℕ) : Type 0 where
   pub unfinished : k ≡ length ts → IsText ts → ⊥
   pub shallow : IsShallow (take k ts)
 
--- the brace that would open the thirteenth region, where a text may go on with it
+-- the index of the first brace that would open one region more than the limit, where a module's token sequence may have that brace
 pub record IsTooDeep (ts : List Terminal) (k : ℕ) : Type 0 where
   pub brace : slice_get ts k ≡ Some LeftBrace
   pub begins : BeginsText (take (k + 1) ts)
   pub shallow : IsShallow (take k ts)
   pub full : regions (take k ts) ≡ region_limit
 
--- a word that names no operation and no type
+-- a bare word other than an operation name or a type
 abbrev pub is_unnamed : Terminal → Bool
 is_unnamed Private = true
 is_unnamed Truth = true
@@ -89,16 +89,16 @@ is_unnamed Nuw = true
 is_unnamed OtherWord = true
 is_unnamed _ = false
 
--- the words that name operations, and the types
+-- operation names and types
 abbrev pub names : List Terminal
 names =
     Module ∷ Function ∷ TypeWord ∷ Return ∷ Constant ∷ Binary ∷ FlaggedBinary ∷ Cast ∷ FlaggedCast ∷ Compare ∷ Select ∷ Call ∷ If ∷ For ∷ While ∷ Condition ∷ Yield ∷ []
 
--- behind these tokens the name of an operation or a type could stand
+-- after these tokens an operation name or a type is accepted
 abbrev pub NameCouldStand : List Terminal → Type 0
 NameCouldStand ts = (i : ℕ) × (t : Terminal) × (slice_get names i ≡ Some t) × BeginsText (ts ++ t ∷ [])
 
--- the faulty token is a word that names no operation and no type, where one of these could stand
+-- the unexpected token is a word other than an operation name or a type, where one of these is accepted
 pub record IsNotHere (ts : List Terminal) (k : ℕ) : Type 0 where
   pub fault : IsSyntaxFault ts k
   pub word : Terminal
@@ -106,7 +106,7 @@ pub record IsNotHere (ts : List Terminal) (k : ℕ) : Type 0 where
   pub unnamed : is_unnamed word ≡ true
   pub could : NameCouldStand (take k ts)
 
--- any other fault of the grammar
+-- a syntax error of the other kinds
 pub record IsOtherFault (ts : List Terminal) (k : ℕ) : Type 0 where
   pub fault : IsSyntaxFault ts k
   pub other : IsNotHere ts k → ⊥

@@ -1,4 +1,4 @@
--- The tokens of a text: at each place the longest one, with blanks and comments between them.
+-- The tokens of a text, by longest match, with whitespace and comments between them.
 use Rattle.std.specs.Prelude.{ℕ, ◌≡◌, ◌+◌, ◌-◌, ◌<◌, ◌≤◌, ◌==◌, ◌&&◌, ◌||◌, not, nat_le, Bool, true, false, List, [], ◌∷◌, length, take, drop, if◌then◌else◌}
 use Rattle.std.specs.List.{list_all}
 use Rattle.mlir_ir.specs.Names.{is_digit, is_letter, is_name}
@@ -6,9 +6,11 @@ use Rattle.mlir_ir.specs.declared.token.Token.{Token}
 use Rattle.mlir_ir.specs.declared.token.TokenKind.{TokenKind}
 use Rattle.mlir_ir.specs.declared.token.TokenKind.TheVariants.{Word, Value, Symbol, Caret, Pick, Number, Mark}
 
+-- a letter or `_`
 abbrev pub begins_word : ℕ → Bool
 begins_word b = is_letter b || b == 95
 
+-- a letter, a digit, `_`, `$` or `.`
 abbrev pub is_word_byte : ℕ → Bool
 is_word_byte b = is_letter b || is_digit b || b == 95 || b == 36 || b == 46
 
@@ -33,12 +35,12 @@ abbrev pub is_hexadecimal : List ℕ → Bool
 is_hexadecimal [] = false
 is_hexadecimal (b ∷ bs) = is_hex_digit b && list_all is_hex_digit bs
 
--- the byte, and then bytes that pass
+-- the lead byte, and then bytes that pass
 abbrev pub is_led : ℕ → (List ℕ → Bool) → List ℕ → Bool
 is_led lead passes [] = false
 is_led lead passes (b ∷ bs) = b == lead && passes bs
 
--- `->`, or one byte of a mark
+-- `->`, or one byte of punctuation
 abbrev pub is_mark : List ℕ → Bool
 is_mark [] = false
 is_mark (b ∷ []) = is_mark_byte b
@@ -65,53 +67,54 @@ begins Pick b = b == 35
 begins Number b = is_digit b
 begins Mark b = is_mark_byte b
 
--- the longest token at the front of the bytes has this kind and length
+-- the longest token that the bytes begin with has this kind and length
 pub record IsFront (bytes : List ℕ) (kind : TokenKind) (len : ℕ) : Type 0 where
   pub within : len ≤ length bytes
   pub whole : is_token kind (take len bytes) ≡ true
   pub longest : (other : TokenKind) (more : ℕ) → len < more → more ≤ length bytes → is_token other (take more bytes) ≡ false
 
--- no token begins at the front of the bytes
+-- the bytes begin with no token
 abbrev pub NoneBegins : List ℕ → Type 0
 NoneBegins bytes = (kind : TokenKind) (len : ℕ) → len ≤ length bytes → is_token kind (take len bytes) ≡ false
 
+-- a space, a tab, CR or LF
 abbrev pub is_blank : ℕ → Bool
 is_blank b = b == 32 || b == 9 || b == 13 || b == 10
 
--- whether the byte is first
+-- whether the first byte is this one
 abbrev pub is_next : ℕ → List ℕ → Bool
 is_next byte [] = false
 is_next byte (b ∷ bs) = b == byte
 
--- what is left behind the blanks and comments at the front; true within a comment, which goes to the end of its line
+-- the bytes after leading whitespace and comments; the flag is true inside a comment, which ends with its line
 abbrev pub behind_gap : Bool → List ℕ → List ℕ
 behind_gap _ [] = []
 behind_gap true (b ∷ bs) = behind_gap (not (b == 10)) bs
 behind_gap false (b ∷ bs) =
     if is_blank b then behind_gap false bs else (if b == 47 && is_next 47 bs then behind_gap true bs else b ∷ bs)
 
--- the token at the front of the bytes, which begin at the place
+-- the bytes begin with this token; `at` is their byte offset
 pub record IsTokenAt (at : ℕ) (bytes : List ℕ) (token : Token) : Type 0 where
   pub front : IsFront bytes token.kind (length token.text)
   pub text : token.text ≡ take (length token.text) bytes
   pub from : token.from ≡ at
   pub to : token.to ≡ at + length token.text
 
--- the tokens at the front of the bytes, which begin at the first place, and what is left behind them, which begins at the second
+-- the bytes at offset `at` begin with these tokens, and `rest`, at offset `place`, follows them
 abbrev pub Lexes : ℕ → List ℕ → List Token → ℕ → List ℕ → Type 0
 Lexes at bytes [] place rest = (at ≡ place) × (bytes ≡ rest)
 Lexes at bytes (token ∷ tokens) place rest =
     let here = behind_gap false bytes in
     IsTokenAt (at + (length bytes - length here)) here token × Lexes token.to (drop (length token.text) here) tokens place rest
 
--- the tokens of the whole text
+-- these are the tokens of the whole text
 pub record AreTokens (text : List ℕ) (tokens : List Token) : Type 0 where
   pub place : ℕ
   pub rest : List ℕ
   pub front : Lexes 0 text tokens place rest
   pub end : behind_gap false rest ≡ []
 
--- the first byte where no token begins
+-- the offset of the first byte, after whole tokens and a gap, where no token begins
 pub record IsLexFault (text : List ℕ) (at : ℕ) : Type 0 where
   pub tokens : List Token
   pub place : ℕ

@@ -12,7 +12,8 @@ use Rattle.mlir_ir.specs.declared.types.Op.{Op}
 use Rattle.mlir_ir.specs.declared.types.Kind.{Kind, If', For, While, Held-Kind-If-2, None', Some'}
 use Rattle.mlir_ir.specs.declared.types.ForParts.{ForParts, ForParts'}
 use Rattle.mlir_ir.specs.declared.types.WhileParts.{WhileParts, WhileParts'}
-use Rattle.mlir_ir.specs.Labels.{label_at, region_labels, kind_labels, op_labels}
+use Rattle.arith_word.specs.Labels.{label_at}
+use Rattle.mlir_ir.specs.Labels.{region_labels, kind_labels, op_labels}
 
 -- a value: result `place`, from 0, of a pack of `count` results with that name
 pub record Value : Type 0 where

@@ -1,6 +1,7 @@
 ghost use Rattle.std.specs.Prelude.{◌≡◌, ◌+◌, ◌<◌, ◌≤◌, ◌^◌, length, min, IfOk, OnOk};
 ghost use Rattle.std.specs.Result.{result_err};
 ghost use Rattle.mlir_ir.specs.Check as spec;
+ghost use Rattle.mlir_ir.specs.Limits.{arg_limit};
 ghost use Rattle.mlir_ir.specs.Scope.{scope_values};
 
 use crate::fault::keep;
@@ -20,10 +21,10 @@ pub(crate) fn check_args<'x>(
     at: Position,
     args: &'x [Arg],
 ) -> Result<Position, Shape>
-    requires { at.next + min 16 (length args.now) < 2 ^ 32 }
+    requires { at.next + min arg_limit (length args.now) < 2 ^ 32 }
     ensures found { spec.first (spec.args_breaks declared 0 wanted.now (scope_values scope.now) at args.now) ≡ result_err result }
     ensures moved { IfOk result (λ behind. behind ≡ spec.past (length args.now) 0 at) }
-    ensures few { OnOk result (length args.now ≤ 16) }
+    ensures few { OnOk result (length args.now ≤ arg_limit) }
 {
     let mut behind = at;
     for (k, arg) in args.iter().enumerate() {

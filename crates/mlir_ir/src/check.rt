@@ -1,26 +1,29 @@
-ghost use Rattle.std.specs.Prelude.{◌≡◌, ◌+◌, ◌*◌, ◌<◌, ◌≤◌, ℕ, ◌^◌, ◌++◌, [], length, nat_le, IfOk, OnOk, IsFalse, MatchResult, Some};
+ghost use Rattle.std.specs.Prelude.{◌≡◌, ◌+◌, ◌*◌, ◌-◌, ◌<◌, ◌≤◌, ℕ, ◌^◌, ◌++◌, [], length, nat_le, IfOk, OnOk, IsFalse, MatchResult, Some};
 ghost use Rattle.std.specs.Result.{result_err};
 ghost use Rattle.mlir_ir.specs.Check as spec;
-ghost use Rattle.mlir_ir.specs.Labels.{ops_labels};
+ghost use Rattle.mlir_ir.specs.Limits.{arg_limit, label_limit, region_limit};
 ghost use Rattle.mlir_ir.specs.Outer.{KeepsLabels};
 ghost use Rattle.mlir_ir.specs.Scope.{scope_values};
+ghost use Rattle.mlir_ir.specs.Within.{ops_labels_within};
 
 use crate::args::check_args;
-use crate::count::skip_ops;
 use crate::fault::keep;
 use crate::keeps::{head_rules, op_rules, return_rules};
+use crate::limits::{ITEM_LIMIT, LABEL_LIMIT, REGION_LIMIT};
 use crate::outer::Outer;
 use crate::rules::{Nest, Position};
 use crate::scope::Scope;
 use crate::shape::Shape;
 use crate::types::{Body, Func, Item, Op};
 use crate::walk::check_ops;
+use crate::within::skip_ops_within;
+use arith_word::Label;
 
-/// Whether operations take few enough labels for one item.
+/// Whether operations take few enough labels for one item, in the regions that may be open.
 fn are_few(ops: &[Op]) -> bool
-    ensures { result ≡ nat_le (ops_labels ops.now) 16383 }
+    ensures { result ≡ nat_le (ops_labels_within (region_limit - 1) ops.now) label_limit }
 {
-    skip_ops(ops, 16383).is_some()
+    skip_ops_within(ops, REGION_LIMIT - 1, LABEL_LIMIT).is_some()
 }
 
 /// The first break of an item that passes a limit: one of its first operation, where it has one,
@@ -48,18 +51,17 @@ fn check_item(
     ensures found { spec.first (spec.ops_breaks (scope_values scope.now) (spec.in_item number item.now) (spec.at_item func number at) item.now.ops) ≡ result_err result }
     ensures last { IfOk result (λ behind. behind.last ≡ (spec.past_ops item.now.ops (spec.at_item func number at)).last) }
     ensures ops { IfOk result (λ behind. behind.ops ≡ (spec.past_ops item.now.ops (spec.at_item func number at)).ops) }
-    ensures few { OnOk result (KeepsLabels item.now) }
+    ensures few { OnOk result (KeepsLabels number item.now) }
 {
     let ops = item.ops.as_slice();
     let nest = Nest {
         regions: 1,
         loops: 0,
-        item_fits: number <= 1023 && are_few(ops),
+        item_fits: number <= ITEM_LIMIT && are_few(ops),
     };
     if nest.item_fits {
-        let next = func as u32 * 16777216 + number as u32 * 16384;
         let begin = Position {
-            next,
+            next: Label::new(func, number, 0).0,
             last: at.last,
             ops: at.ops,
         };
@@ -72,7 +74,7 @@ fn check_item(
 
 /// The first break of a function's items and its return.
 fn check_body(func: &Func, body: &Body, at: Position) -> Result<(), Shape>
-    requires few { length func.now.args ≤ 16 }
+    requires few { length func.now.args ≤ arg_limit }
     requires begin { at ≡ spec.past_args func.now.args (spec.func_begin func.now) }
     ensures { spec.first (spec.body_breaks func.now (Some body.now)) ≡ result_err result }
 {
@@ -112,7 +114,7 @@ impl Func {
     pub fn check(&self) -> Result<(), Shape>
         ensures { MatchResult result (λ _. spec.IsWellFormed self.now) (λ shape. spec.first (spec.breaks self.now) ≡ Some shape) }
     {
-        let base = self.index as u32 * 16777216;
+        let base = Label::new(self.index, 0, 0).0;
         let begin = Position {
             next: base,
             last: base,

@@ -57,7 +57,7 @@ fn skip_region(region: &Region, left: u32) -> Option<u32>
 
 /// What is left of that many labels behind those of operations; `None` where there are fewer.
 #[cycle(skip)]
-pub(crate) fn skip_ops(ops: &[Op], left: u32) -> Option<u32>
+fn skip_ops(ops: &[Op], left: u32) -> Option<u32>
     ensures { MatchOption result (left < ops_labels ops.now) (λ rest. rest + ops_labels ops.now ≡ left) }
 {
     let mut left = left;

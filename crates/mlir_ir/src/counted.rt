@@ -1,6 +1,7 @@
 ghost use Rattle.std.specs.Prelude.{◌≡◌};
 ghost use Rattle.mlir_ir.specs.Rules as spec;
 
+use crate::limits::{ARG_LIMIT, LOOP_LIMIT, REGION_LIMIT};
 use crate::types::{ForParts, Kind, Pack, Region, WhileParts};
 
 #[tactic(auto, using(crate::proofs::Rows::has_yield_ends))]
@@ -62,10 +63,10 @@ pub(crate) fn is_kind_sized(regions: u32, loops: u32, kind: &Kind) -> bool
     ensures { result ≡ spec.is_kind_sized regions loops kind.now }
 {
     match kind {
-        Kind::Call(_, uses) => uses.as_slice().len() <= 16,
-        Kind::If(_, _, _) => regions < 12,
-        Kind::For(_) => regions < 12 && loops < 6,
-        Kind::While(_) => regions < 12 && loops < 6,
+        Kind::Call(_, uses) => uses.as_slice().len() <= ARG_LIMIT,
+        Kind::If(_, _, _) => regions < REGION_LIMIT,
+        Kind::For(_) => regions < REGION_LIMIT && loops < LOOP_LIMIT,
+        Kind::While(_) => regions < REGION_LIMIT && loops < LOOP_LIMIT,
         _ => true,
     }
 }

@@ -1,9 +1,11 @@
 ghost use Rattle.std.specs.Prelude.{◌≡◌, ◌<◌, ◌≤◌, ◌&&◌, [], ◌∷◌, drop, nat_le, nat_lt, length, IsTrue};
 ghost use Rattle.std.specs.List.{list_all};
+ghost use Rattle.mlir_ir.specs.Limits.{arg_limit, op_limit};
 ghost use Rattle.mlir_ir.specs.Rules as spec;
 ghost use Rattle.mlir_ir.specs.Scope.{scope_values};
 
 use crate::counted::{is_kind_counted, is_kind_sized, packs_hold};
+use crate::limits::{ARG_LIMIT, ITEM_LIMIT, NAME_LIMIT, OP_LIMIT, RESULT_LIMIT};
 use crate::names::is_name;
 use crate::rules::{Nest, Position, Rules};
 use crate::scope::Scope;
@@ -17,7 +19,7 @@ use arith_word::Label;
 fn is_short(name: &[u8]) -> bool
     ensures { result ≡ spec.is_short name.now }
 {
-    name.len() <= 64
+    name.len() <= NAME_LIMIT
 }
 
 fn are_short(packs: &[Pack]) -> bool
@@ -29,7 +31,7 @@ fn are_short(packs: &[Pack]) -> bool
 /// The rules that an operation keeps, besides those of the places in its regions.
 pub(crate) fn op_rules(scope: &Scope, nest: Nest, at: Position, op: &Op) -> Rules
     ensures value { result ≡ spec.op_rules (scope_values scope.now) nest at op.now.packs op.now.results op.now.kind }
-    ensures few { IsTrue result.sized → at.ops < 8192 }
+    ensures few { IsTrue result.sized → at.ops < op_limit }
     ensures fits { IsTrue result.sized → IsTrue nest.item_fits }
     ensures opens { IsTrue result.sized → IsTrue (spec.is_kind_sized nest.regions nest.loops op.now.kind) }
 {
@@ -40,8 +42,8 @@ pub(crate) fn op_rules(scope: &Scope, nest: Nest, at: Position, op: &Op) -> Rule
         typed: are_free(scope, packs) && is_kind_typed(scope, results, &op.kind),
         counted: packs_hold(packs, results.len()) && is_kind_counted(results.len(), &op.kind),
         sized: are_short(packs)
-            && results.len() <= 16
-            && at.ops < 8192
+            && results.len() <= RESULT_LIMIT
+            && at.ops < OP_LIMIT
             && nest.item_fits
             && is_kind_sized(nest.regions, nest.loops, &op.kind),
     }
@@ -63,7 +65,7 @@ pub(crate) fn arg_rules(
     arg: &Arg,
 ) -> Rules
     ensures value { result ≡ spec.arg_rules declared place (drop place wanted.now) (scope_values scope.now) arg.now }
-    ensures few { IsTrue result.sized → place < 16 }
+    ensures few { IsTrue result.sized → place < arg_limit }
 {
     let name = arg.name.as_bytes();
     Rules {
@@ -71,7 +73,7 @@ pub(crate) fn arg_rules(
         typed: (is_free(scope, name) || declared && name.len() == 0)
             && is_wanted(arg.ty, wanted, place),
         counted: true,
-        sized: is_short(name) && place < 16,
+        sized: is_short(name) && place < ARG_LIMIT,
     }
 }
 
@@ -84,7 +86,7 @@ pub(crate) fn head_rules(func: &Func) -> Rules
         in_scope: true,
         typed: is_name(name),
         counted: true,
-        sized: is_short(name) && func.results.as_slice().len() <= 16,
+        sized: is_short(name) && func.results.as_slice().len() <= RESULT_LIMIT,
     }
 }
 
@@ -137,6 +139,6 @@ pub(crate) fn return_rules(scope: &Scope, wanted: &[IrType], items: usize, ret: 
         in_scope: are_in_scope(scope, ret),
         typed: have_types(scope, wanted, ret),
         counted: ret.len() == wanted.len(),
-        sized: items <= 1023,
+        sized: items <= ITEM_LIMIT,
     }
 }

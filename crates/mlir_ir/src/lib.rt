@@ -1,5 +1,5 @@
 //! Modules of the `func`, `arith` and `scf` dialects: their types, the labels of their values, and
-//! the definitions of their canonical text and of a well-formed function.
+//! the definitions of their canonical text and of a well-formed function, with its laws.
 #![tactic(auto)]
 
 mod args;
@@ -8,6 +8,8 @@ mod count;
 mod counted;
 mod fault;
 mod keeps;
+mod laws;
+pub mod limits;
 mod lookup;
 mod module;
 mod names;
@@ -15,6 +17,7 @@ mod outer;
 mod position;
 mod rules;
 mod scope;
+mod scope_kind;
 mod shape;
 mod syntax;
 mod terminal;
@@ -23,10 +26,13 @@ mod typed;
 mod types;
 mod uses;
 mod walk;
+mod within;
 
+pub use laws::{breaks_of_functions, places_of_functions, well_formed_functions};
 pub use module::Module;
-pub use names::is_name;
+pub use names::{is_digit, is_letter, is_name, is_name_byte};
 pub use rules::{Nest, Position, Rules};
+pub use scope_kind::ScopeKind;
 pub use shape::{Shape, ShapeFault};
 pub use syntax::{Branch, Form, Syntax};
 pub use terminal::Terminal;

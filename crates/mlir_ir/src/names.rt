@@ -2,19 +2,22 @@ ghost use Rattle.std.specs.Prelude.{◌≡◌};
 ghost use Rattle.std.specs.List.{list_all};
 ghost use Rattle.mlir_ir.specs.Names as spec;
 
-fn is_digit(b: u8) -> bool
+/// Whether the byte is a decimal digit.
+pub fn is_digit(b: u8) -> bool
     ensures { result ≡ spec.is_digit b }
 {
-    48 <= b && b <= 57
+    b'0' <= b && b <= b'9'
 }
 
-fn is_letter(b: u8) -> bool
+/// Whether the byte is an ASCII letter.
+pub fn is_letter(b: u8) -> bool
     ensures { result ≡ spec.is_letter b }
 {
-    (65 <= b && b <= 90) || (97 <= b && b <= 122)
+    (b'A' <= b && b <= b'Z') || (b'a' <= b && b <= b'z')
 }
 
-fn is_name_byte(b: u8) -> bool
+/// Whether the byte may stand in a name.
+pub fn is_name_byte(b: u8) -> bool
     ensures { result ≡ spec.is_name_byte b }
 {
     is_letter(b) || is_digit(b) || b == b'$' || b == b'.' || b == b'_' || b == b'-'

@@ -1,5 +1,6 @@
 ghost use Rattle.std.specs.Prelude.{◌≡◌, ◌+◌, ◌<◌, ◌≤◌, ◌^◌};
 ghost use Rattle.mlir_ir.specs.Check as spec;
+ghost use Rattle.mlir_ir.specs.Limits.{loop_limit, region_limit};
 
 use crate::rules::{Nest, Position};
 
@@ -22,7 +23,7 @@ impl Position {
 impl Nest {
     /// Inside a region of an `scf.if`.
     pub(crate) fn opened(self) -> Nest
-        requires { self.regions ≤ 12 }
+        requires { self.regions ≤ region_limit }
         ensures { result ≡ spec.opened self }
     {
         Nest {
@@ -34,8 +35,8 @@ impl Nest {
 
     /// Inside a region of a loop.
     pub(crate) fn looped(self) -> Nest
-        requires regions { self.regions ≤ 12 }
-        requires loops { self.loops ≤ 6 }
+        requires regions { self.regions ≤ region_limit }
+        requires loops { self.loops ≤ loop_limit }
         ensures { result ≡ spec.looped self }
     {
         Nest {

@@ -1,6 +1,6 @@
 ghost use Rattle.std.specs.Prelude.{◌≡◌, ◌++◌};
 ghost use Rattle.mlir_ir.specs.Check.{items_results};
-ghost use Rattle.mlir_ir.specs.Labels.{label_at};
+ghost use Rattle.arith_word.specs.Labels.{label_at};
 ghost use Rattle.mlir_ir.specs.Rules.{has_name};
 ghost use Rattle.mlir_ir.specs.Scope.{scope_values};
 ghost use Rattle.mlir_ir.specs.Values.{arg_values, type_at};
@@ -8,6 +8,7 @@ ghost use Rattle.mlir_ir.specs.Values.{arg_values, type_at};
 use crate::lookup::{arg_type, args_name, items_name, ops_name, ops_type};
 use crate::outer::Outer;
 use crate::types::{Arg, IrType, Op};
+use arith_word::Label;
 
 /// The values in scope at a place of a function.
 #[derive(Drop)]
@@ -21,21 +22,21 @@ pub(crate) enum Scope<'a> {
 
 impl<'a> Outer<'a> {
     /// The type of the value with that label, found at the place of its item.
-    #[tactic(auto, using(crate::proofs::TypeAtTop::top_before, crate::proofs::TypeAtTop::top_arg, crate::proofs::TypeAtTop::top_item, crate::proofs::TypeAtTop::top_behind))]
+    #[tactic(auto, using(crate::proofs::TypeAtTop::top_other, crate::proofs::TypeAtTop::top_arg, crate::proofs::TypeAtTop::top_item, crate::proofs::TypeAtTop::top_behind))]
     fn type_of(&self, label: u32) -> Option<IrType>
         ensures { result ≡ type_at (arg_values (label_at self.now.func 0 0) self.now.args.now ++ items_results self.now.func 1 self.now.items.now) label }
     {
-        let place = label / 16384;
-        let first = self.func as u32 * 1024;
-        if place < first {
+        let place = Label(label);
+        if place.func() != self.func {
             return None;
         }
-        if place == first {
-            return arg_type(first * 16384, self.args, label);
+        let number = place.item();
+        let begin = Label::new(self.func, number, 0).0;
+        if number == 0 {
+            return arg_type(begin, self.args, label);
         }
-        let index = (place - first - 1) as usize;
-        if index < self.items.len() {
-            ops_type(place * 16384, self.items[index].ops.as_slice(), label)
+        if number <= self.items.len() {
+            ops_type(begin, self.items[number - 1].ops.as_slice(), label)
         } else {
             None
         }

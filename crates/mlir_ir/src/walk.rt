@@ -1,9 +1,11 @@
 ghost use Rattle.std.specs.Prelude.{◌≡◌, ◌+◌, ◌-◌, ◌<◌, ◌≤◌, ◌^◌, length, IfOk, IsTrue};
 ghost use Rattle.std.specs.Result.{result_err};
 ghost use Rattle.mlir_ir.specs.Check as spec;
-ghost use Rattle.mlir_ir.specs.Labels.{op_labels, ops_labels, kind_labels, region_labels, for_labels, while_labels};
+ghost use Rattle.mlir_ir.specs.Labels.{for_labels, while_labels};
+ghost use Rattle.mlir_ir.specs.Limits.{region_limit};
 ghost use Rattle.mlir_ir.specs.Rules.{is_kind_sized, arg_types};
 ghost use Rattle.mlir_ir.specs.Scope.{scope_values};
+ghost use Rattle.mlir_ir.specs.Within.{for_labels_within, kind_labels_within, op_labels_within, ops_labels_within, region_labels_within, while_labels_within};
 
 use crate::args::check_args;
 use crate::fault::keep;
@@ -24,7 +26,7 @@ pub(crate) fn check_ops<'x>(
     at: Position,
     ops: &'x [Op],
 ) -> Result<Position, Shape>
-    requires { at.next + ops_labels ops.now < 2 ^ 32 }
+    requires { at.next + ops_labels_within (region_limit - nest.regions) ops.now < 2 ^ 32 }
     ensures found { spec.first (spec.ops_breaks (scope_values scope.now) nest at ops.now) ≡ result_err result }
     ensures moved { IfOk result (λ behind. behind ≡ spec.past_ops ops.now at) }
 {
@@ -43,7 +45,7 @@ fn check_op<'x>(
     at: Position,
     op: &'x Op,
 ) -> Result<Position, Shape>
-    requires { at.next + op_labels op.now < 2 ^ 32 }
+    requires { at.next + op_labels_within (region_limit - nest.regions) op.now < 2 ^ 32 }
     ensures found { spec.first (spec.op_breaks (scope_values scope.now) nest at op.now) ≡ result_err result }
     ensures moved { IfOk result (λ behind. behind ≡ spec.past_op op.now at) }
 {
@@ -63,7 +65,7 @@ fn check_kind<'x>(
     results: &[IrType],
     kind: &'x Kind,
 ) -> Result<Position, Shape>
-    requires room { at.next + kind_labels kind.now < 2 ^ 32 }
+    requires room { at.next + kind_labels_within (region_limit - nest.regions) kind.now < 2 ^ 32 }
     requires opens { IsTrue (is_kind_sized nest.regions nest.loops kind.now) }
     ensures found { spec.first (spec.kind_breaks (scope_values scope.now) nest at results.now kind.now) ≡ result_err result }
     ensures moved { IfOk result (λ behind. behind ≡ spec.past_kind kind.now at) }
@@ -90,7 +92,7 @@ fn check_arm<'x>(
     wanted: &[IrType],
     region: &'x Region,
 ) -> Result<Position, Shape>
-    requires { at.next + region_labels region.now < 2 ^ 32 }
+    requires { at.next + region_labels_within (region_limit - nest.regions) region.now < 2 ^ 32 }
     ensures found { spec.first (spec.arm_breaks (scope_values scope.now) nest at wanted.now region.now) ≡ result_err result }
     ensures moved { IfOk result (λ behind. behind ≡ spec.past_region region.now at) }
 {
@@ -114,7 +116,7 @@ fn check_for<'x>(
     results: &[IrType],
     parts: &'x ForParts,
 ) -> Result<Position, Shape>
-    requires { at.next + for_labels parts.now ≤ 2 ^ 32 }
+    requires { at.next + for_labels_within (region_limit - nest.regions) parts.now ≤ 2 ^ 32 }
     ensures found { spec.first (spec.for_breaks (scope_values scope.now) nest at results.now parts.now) ≡ result_err result }
     ensures moved { IfOk result (λ behind. behind ≡ spec.past (for_labels parts.now - 1) (spec.for_ops parts.now) at) }
 {
@@ -137,7 +139,7 @@ fn check_while<'x>(
     results: &[IrType],
     parts: &'x WhileParts,
 ) -> Result<Position, Shape>
-    requires { at.next + while_labels parts.now ≤ 2 ^ 32 }
+    requires { at.next + while_labels_within (region_limit - nest.regions) parts.now ≤ 2 ^ 32 }
     ensures found { spec.first (spec.while_breaks (scope_values scope.now) nest at results.now parts.now) ≡ result_err result }
     ensures moved { IfOk result (λ behind. behind ≡ spec.past (while_labels parts.now - 1) (spec.while_ops parts.now) at) }
 {
@@ -169,7 +171,7 @@ fn check_before<'x>(
     cond: Label,
     region: &'x Region,
 ) -> Result<Position, Shape>
-    requires { at.next + region_labels region.now < 2 ^ 32 }
+    requires { at.next + region_labels_within (region_limit - nest.regions) region.now < 2 ^ 32 }
     ensures found { spec.first (spec.before_breaks (scope_values scope.now) nest at results.now cond region.now) ≡ result_err result }
     ensures moved { IfOk result (λ behind. behind ≡ spec.past_region region.now at) }
 {
@@ -193,7 +195,7 @@ fn check_turn<'x>(
     wanted: &[Arg],
     region: &'x Region,
 ) -> Result<Position, Shape>
-    requires { at.next + region_labels region.now < 2 ^ 32 }
+    requires { at.next + region_labels_within (region_limit - nest.regions) region.now < 2 ^ 32 }
     ensures found { spec.first (spec.turn_breaks (scope_values scope.now) nest at (arg_types wanted.now) region.now) ≡ result_err result }
     ensures moved { IfOk result (λ behind. behind ≡ spec.past_region region.now at) }
 {

@@ -12,7 +12,7 @@ use Rattle.mlir_ir.specs.declared.token.TokenKind.TheVariants.{Word, Value, Symb
 abbrev is_low : ℕ → Bool
 is_low b = nat_lt b 128
 
--- bytes that pass a test of ASCII bytes alone
+-- bytes that pass a test which only ASCII bytes pass
 all_low : (p : ℕ → Bool) → ((b : ℕ) → p b ≡ true → is_low b ≡ true) → (bs : List ℕ) → list_all p bs ≡ true → list_all is_low bs ≡ true
 all_low p low [] all = refl
 all_low p low (b ∷ bs) all =
@@ -95,6 +95,6 @@ low_at [] all i = omega arith
 low_at (b ∷ bs) all zero = ltb-true b 128 (and_parts (is_low b) (list_all is_low bs) all).0
 low_at (b ∷ bs) all (suc i) = low_at bs (and_parts (is_low b) (list_all is_low bs) all).1 i
 
--- so they are a text
+-- the bytes of a token are UTF-8
 pub token_utf8 : (kind : TokenKind) (bs : List ℕ) (len : ℕ) → IsFront bs kind len → IsUtf8 (take len bs)
 token_utf8 kind bs len front = IsUtf8-from_ascii (take len bs) (low_at (take len bs) (token_low kind (take len bs) front.whole))

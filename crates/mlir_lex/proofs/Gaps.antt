@@ -1,4 +1,4 @@
--- Blanks and comments, from a place on.
+-- Whitespace and comments from a byte offset on.
 use Rattle.std.proofs.Common.{◌≡◌, ℕ, ◌+◌, ◌<◌, Bool, true, false, not, ◌&&◌, ◌==◌, List, [], ◌∷◌, length, get_or, drop, refl, ap, ◌∙◌, sym, drop-cons, add-one}
 use Rattle.std.proofs.Math.Seq.{drop-length}
 use Rattle.mlir_ir.specs.Tokens.{is_blank, is_next, behind_gap}
@@ -18,7 +18,7 @@ pub at_slashes : (bs : List ℕ) (at : ℕ) → at < length bs → is_blank (get
     → behind_gap false (drop at bs) ≡ behind_gap true (drop (at + 1) bs)
 at_slashes bs at h blank first second = ap (behind_gap false) (cut bs at h) ∙ rw (blank, first, second) refl
 
--- the gap ends before a byte
+-- the gap ends where a token may begin
 pub at_token : (bs : List ℕ) (at : ℕ) → at < length bs → is_blank (get_or bs at 0) ≡ false → (get_or bs at 0 == 47 && is_next 47 (drop (at + 1) bs)) ≡ false
     → behind_gap false (drop at bs) ≡ drop at bs
 at_token bs at h blank none = ap (behind_gap false) (cut bs at h) ∙ rw (blank, none) (sym (cut bs at h))
@@ -27,6 +27,6 @@ behind_nothing : (comment : Bool) → behind_gap comment [] ≡ []
 behind_nothing true = refl
 behind_nothing false = refl
 
--- the gap goes to the end
+-- the gap reaches the end of the text
 pub at_end : (bs : List ℕ) (comment : Bool) → behind_gap comment (drop (length bs) bs) ≡ []
 at_end bs comment = ap (behind_gap comment) (drop-length bs) ∙ behind_nothing comment

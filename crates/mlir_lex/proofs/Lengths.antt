@@ -1,4 +1,4 @@
--- The longest names, numbers and words.
+-- The longest name, number or word that bytes begin with.
 use Rattle.std.proofs.Common.{suc, zero, ◌≡◌, ℕ, ◌+◌, ◌<◌, ◌≤◌, Bool, true, false, ◌&&◌, ◌==◌, List, [], ◌∷◌, length, take, refl, ◌∙◌, arith, eq-eqb, one-add, sym, subst, ap}
 use Rattle.std.specs.List.{prefix_len, list_all}
 use Rattle.std.proofs.lemmas.Bool.{and_left, and_right, and_from, and_parts, or_from, or_left, or_right, eqb-true, both_ways}
@@ -86,7 +86,7 @@ word_run b bs begins = record {
     longer zero beyond within = absurd (omega arith)
     longer (suc more) beyond within = and_right (begins_word b) (list_all is_word_byte (take more bs)) (past_run is_word_byte bs more (omega arith) (omega arith))
 
--- a leading byte before the longest
+-- a lead byte before the longest bytes that pass
 pub led_longest : (lead : ℕ) (passes : List ℕ → Bool) (bs : List ℕ) (len : ℕ)
     → IsLongest passes bs len → 0 < len → IsLongest (is_led lead passes) (lead ∷ bs) (1 + len)
 led_longest lead passes bs len run some = record {
@@ -99,7 +99,7 @@ led_longest lead passes bs len run some = record {
     longer zero beyond within = absurd (omega arith)
     longer (suc more) beyond within = and_right (lead == lead) (passes (take more bs)) (run.longest more (omega arith) (omega arith))
 
--- nothing passes behind the leading byte
+-- no bytes pass after the lead byte
 pub led_nothing : (lead : ℕ) (passes : List ℕ → Bool) (bs : List ℕ)
     → passes [] ≡ false → IsLongest passes bs 0 → IsLongest (is_led lead passes) (lead ∷ bs) 0
 led_nothing lead passes bs none run = record {
@@ -113,7 +113,7 @@ led_nothing lead passes bs none run = record {
     longer (suc zero) beyond within = and_right (lead == lead) (passes []) none
     longer (suc (suc more)) beyond within = and_right (lead == lead) (passes (take (suc more) bs)) (run.longest (suc more) (omega arith) (omega arith))
 
--- another byte leads
+-- the first byte is not the lead byte
 pub led_by_other : (lead : ℕ) (passes : List ℕ → Bool) (b : ℕ) (bs : List ℕ) → (b == lead) ≡ false → IsLongest (is_led lead passes) (b ∷ bs) 0
 led_by_other lead passes b bs other = record {
   within = omega arith;
@@ -128,7 +128,7 @@ led_by_other lead passes b bs other = record {
 pub led_by_nothing : (lead : ℕ) (passes : List ℕ → Bool) → IsLongest (is_led lead passes) [] 0
 led_by_nothing lead passes = record { within = omega arith; whole = λ some. absurd (omega arith); longest = λ more beyond within. absurd (omega arith) }
 
--- the same for the lengths that the code counts
+-- The lemmas below take the length that the code counted, with the equation for it.
 
 pub decimal_of : (bs : List ℕ) (n : ℕ) → n ≡ prefix_len is_digit bs → IsLongest is_decimal bs n
 decimal_of bs n counted = subst (λ k. IsLongest is_decimal bs k) (sym counted) (decimal_run bs)
@@ -194,7 +194,7 @@ decimal_number bs n none run = record {
       or_from (is_decimal (take more bs)) (is_led 48 (is_led 120 is_hexadecimal) (take more bs)) (run.longest more beyond within) (none.longest more (omega arith) within);
 }
 
--- `->`
+-- the mark `->`
 pub arrow_mark : (b : ℕ) (bs : List ℕ) → (b == 45) ≡ true → is_next 62 bs ≡ true → IsLongest is_mark (b ∷ bs) 2
 arrow_mark b [] dash next = cc
 arrow_mark b (c ∷ bs) dash next = record {

@@ -4,3 +4,5 @@ pub mod Fronts
 pub mod Gaps
 pub mod Pushed
 pub mod Ascii
+pub mod Lexed
+pub mod Lexable

@@ -1,4 +1,4 @@
--- One more token at the end of those found.
+-- One more token after those found.
 use Rattle.std.proofs.Common.{◌≡◌, ℕ, ◌+◌, ◌-◌, ◌≤◌, false, List, [], ◌∷◌, ◌++◌, length, drop, refl, ap, ◌∙◌, sym, arith, subst, length-drop}
 use Rattle.mlir_ir.specs.Tokens.{behind_gap, Lexes, IsTokenAt}
 use Rattle.mlir_ir.specs.declared.token.Token.{Token}
@@ -14,7 +14,7 @@ lexes_push at bs [] place rest t h is =
     (subst P (sym h.0) (subst Q (sym h.1) is), (refl, subst R h.1 refl))
 lexes_push at bs (u ∷ us) place rest t h is = (h.0, lexes_push u.to (drop (length u.text) (behind_gap false bs)) us place rest t h.1 is)
 
--- the same where places are told by what is left
+-- one more token after those found, where the byte offset is the length of the text less the length of the rest
 pub lexes_more : (bs : List ℕ) (ts : List Token) (rest here after : List ℕ) (t : Token)
     → length rest ≤ length bs → here ≡ behind_gap false rest → length here ≤ length rest
     → Lexes 0 bs ts (length bs - length rest) rest

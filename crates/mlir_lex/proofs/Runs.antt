@@ -7,7 +7,7 @@ use Rattle.std.proofs.lemmas.List.Sums.{prefix_len-le-length}
 pub prefix_within : (p : ℕ → Bool) (xs : List ℕ) → prefix_len p xs ≤ length xs
 prefix_within p xs = prefix_len-le-length p xs
 
--- the run passes
+-- all bytes of the run pass
 pub run_passes : (p : ℕ → Bool) (xs : List ℕ) → list_all p (take (prefix_len p xs) xs) ≡ true
 run_passes p [] = refl
 run_passes p (x ∷ xs) =
@@ -16,7 +16,7 @@ run_passes p (x ∷ xs) =
       | inr stops ↦ rw stops refl
     ]
 
--- more than the run doesn't
+-- a longer prefix than the run has a byte that doesn't pass
 pub past_run : (p : ℕ → Bool) (xs : List ℕ) (more : ℕ) → prefix_len p xs < more → more ≤ length xs → list_all p (take more xs) ≡ false
 past_run p xs zero beyond within = absurd (omega arith)
 past_run p [] (suc more) beyond within = absurd (omega arith)

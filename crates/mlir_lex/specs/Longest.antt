@@ -1,7 +1,7 @@
--- The longest bytes of a form at the front.
+-- The longest prefix that passes a test.
 use Rattle.std.specs.Prelude.{ℕ, ◌≡◌, ◌<◌, ◌≤◌, Bool, true, false, List, length, take}
 
--- that many bytes at the front are the most that pass, 0 where none do
+-- the longest prefix that passes has this length, 0 where no prefix passes
 pub record IsLongest (passes : List ℕ → Bool) (bytes : List ℕ) (len : ℕ) : Type 0 where
   pub within : len ≤ length bytes
   pub whole : 0 < len → passes (take len bytes) ≡ true

@@ -1,20 +1,7 @@
 ghost use Rattle.std.specs.Prelude.{◌≡◌};
-ghost use Rattle.mlir_ir.specs.Names as names;
 ghost use Rattle.mlir_ir.specs.Tokens as text;
 
-/// Whether the byte is a decimal digit.
-pub fn is_digit(b: u8) -> bool
-    ensures { result ≡ names.is_digit b }
-{
-    b'0' <= b && b <= b'9'
-}
-
-/// Whether the byte is an ASCII letter.
-pub fn is_letter(b: u8) -> bool
-    ensures { result ≡ names.is_letter b }
-{
-    (b'A' <= b && b <= b'Z') || (b'a' <= b && b <= b'z')
-}
+use mlir_ir::{is_digit, is_letter};
 
 /// Whether the byte is a hexadecimal digit.
 pub fn is_hex_digit(b: u8) -> bool
@@ -35,13 +22,6 @@ pub fn is_word_byte(b: u8) -> bool
     ensures { result ≡ text.is_word_byte b }
 {
     is_letter(b) || is_digit(b) || b == b'_' || b == b'$' || b == b'.'
-}
-
-/// Whether the byte may stand in a name.
-pub fn is_name_byte(b: u8) -> bool
-    ensures { result ≡ names.is_name_byte b }
-{
-    is_letter(b) || is_digit(b) || b == b'$' || b == b'.' || b == b'_' || b == b'-'
 }
 
 /// Whether the byte alone is a mark.

@@ -6,10 +6,10 @@ ghost use Rattle.mlir_ir.specs.declared.token.TokenKind.{TokenKind};
 ghost use Rattle.mlir_ir.specs.declared.token.TokenKind.TheVariants.{Number, Mark};
 ghost use Rattle.mlir_lex.specs.Longest.{IsLongest};
 
-use crate::bytes::{begins_word, is_digit, is_hex_digit, is_mark_byte, is_name_byte, is_word_byte};
-use mlir_ir::TokenKind;
+use crate::bytes::{begins_word, is_hex_digit, is_mark_byte, is_word_byte};
+use mlir_ir::{TokenKind, is_digit, is_name_byte};
 
-/// How many bytes of a word are at the front.
+/// The number of leading bytes that a word may have.
 #[tactic(auto, using(crate::proofs::Runs::prefix_within))]
 fn word_bytes(bytes: &[u8]) -> usize
     ensures value { result ≡ prefix_len text.is_word_byte bytes.now }
@@ -18,14 +18,14 @@ fn word_bytes(bytes: &[u8]) -> usize
     bytes.iter().take_while(|b| is_word_byte(**b)).count()
 }
 
-/// How many bytes of a name are at the front.
+/// The number of leading bytes that a name may have.
 fn name_bytes(bytes: &[u8]) -> usize
     ensures { result ≡ prefix_len names.is_name_byte bytes.now }
 {
     bytes.iter().take_while(|b| is_name_byte(**b)).count()
 }
 
-/// How many decimal digits are at the front.
+/// The number of leading decimal digits.
 #[tactic(auto, using(crate::proofs::Runs::prefix_within))]
 fn digits(bytes: &[u8]) -> usize
     ensures value { result ≡ prefix_len names.is_digit bytes.now }
@@ -34,7 +34,7 @@ fn digits(bytes: &[u8]) -> usize
     bytes.iter().take_while(|b| is_digit(**b)).count()
 }
 
-/// How many hexadecimal digits are at the front.
+/// The number of leading hexadecimal digits.
 #[tactic(auto, using(crate::proofs::Runs::prefix_within))]
 fn hex_digits(bytes: &[u8]) -> usize
     ensures value { result ≡ prefix_len text.is_hex_digit bytes.now }
@@ -43,7 +43,7 @@ fn hex_digits(bytes: &[u8]) -> usize
     bytes.iter().take_while(|b| is_hex_digit(**b)).count()
 }
 
-/// The length with a leading byte, 0 where nothing follows it.
+/// The length with a lead byte, 0 where nothing follows it.
 fn led_len(len: usize) -> usize
     requires { len < 2 ^ 63 }
     ensures nothing { len ≡ 0 → result ≡ 0 }
@@ -52,14 +52,14 @@ fn led_len(len: usize) -> usize
     if len == 0 { 0 } else { 1 + len }
 }
 
-/// How long the longest decimal number at the front is, 0 where there is none.
+/// The length of the longest decimal number that the bytes begin with, 0 without one.
 fn decimal_len(bytes: &[u8]) -> usize
     ensures { IsLongest text.is_decimal bytes.now result }
 {
     digits(bytes)
 }
 
-/// How long the longest name at the front is, 0 where there is none.
+/// The length of the longest name that the bytes begin with, 0 without one.
 fn name_len(bytes: &[u8]) -> usize
     ensures { IsLongest names.is_name bytes.now result }
 {
@@ -75,7 +75,7 @@ fn name_len(bytes: &[u8]) -> usize
     }
 }
 
-/// How long the longest `x` with hexadecimal digits at the front is, 0 where there is none.
+/// The length of the longest `x` with hexadecimal digits that the bytes begin with, 0 without one.
 fn x_len(bytes: &[u8]) -> usize
     ensures { IsLongest (text.is_led 120 text.is_hexadecimal) bytes.now result }
 {
@@ -91,7 +91,7 @@ fn x_len(bytes: &[u8]) -> usize
     }
 }
 
-/// How long the longest `0x` with hexadecimal digits is, 0 where there is none.
+/// The length of the longest `0x` with hexadecimal digits that the bytes begin with, 0 without one.
 fn hex_len(first: u8, rest: &[u8]) -> usize
     ensures { IsLongest (text.is_led 48 (text.is_led 120 text.is_hexadecimal)) (first ∷ rest.now) result }
 {
@@ -102,7 +102,7 @@ fn hex_len(first: u8, rest: &[u8]) -> usize
     }
 }
 
-/// How long the longest number that begins with the digit is.
+/// The length of the longest number that begins with the digit.
 fn number_len(first: u8, rest: &[u8]) -> usize
     requires { names.is_digit first ≡ true }
     ensures { IsLongest (text.is_token Number) (first ∷ rest.now) result }
@@ -111,7 +111,7 @@ fn number_len(first: u8, rest: &[u8]) -> usize
     if hex == 0 { 1 + digits(rest) } else { hex }
 }
 
-/// Whether the byte is first.
+/// Whether the first byte is this one.
 pub fn is_next(byte: u8, bytes: &[u8]) -> bool
     ensures { result ≡ text.is_next byte bytes.now }
 {
@@ -121,7 +121,7 @@ pub fn is_next(byte: u8, bytes: &[u8]) -> bool
     }
 }
 
-/// How long the mark is that begins with the byte: `->` has two bytes.
+/// The length of the mark that begins with the byte: two for `->`, else one.
 fn mark_len(first: u8, rest: &[u8]) -> usize
     requires { text.is_mark_byte first ≡ true }
     ensures { IsLongest (text.is_token Mark) (first ∷ rest.now) result }
@@ -154,7 +154,7 @@ fn kind_of(first: u8) -> Option<TokenKind>
     }
 }
 
-/// How long the longest token of the kind is that begins with the byte, 0 where there is none.
+/// The length of the longest token of the kind that begins with the byte, 0 without one.
 fn kind_len(kind: TokenKind, first: u8, rest: &[u8]) -> usize
     requires { text.begins kind first ≡ true }
     ensures { IsLongest (text.is_token kind) (first ∷ rest.now) result }
@@ -170,7 +170,7 @@ fn kind_len(kind: TokenKind, first: u8, rest: &[u8]) -> usize
     }
 }
 
-/// The kind and the length of the longest token at the front of the bytes.
+/// The kind and the length of the longest token that the bytes begin with.
 pub fn token_front(bytes: &[u8]) -> Option<(TokenKind, usize)>
     ensures { MatchOption result (text.NoneBegins bytes.now) (λ f. text.IsFront bytes.now f.0 f.1) }
 {

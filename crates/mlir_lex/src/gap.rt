@@ -4,7 +4,7 @@ ghost use Rattle.mlir_ir.specs.Tokens as text;
 use crate::bytes::is_blank;
 use crate::front::is_next;
 
-/// How many bytes of blanks and comments are at the front.
+/// The number of leading bytes of whitespace and comments.
 #[tactic(auto, using(crate::proofs::Gaps::in_comment, crate::proofs::Gaps::at_blank, crate::proofs::Gaps::at_slashes, crate::proofs::Gaps::at_token, crate::proofs::Gaps::at_end))]
 pub fn gap_len(bytes: &[u8]) -> usize
     ensures rest { drop result bytes.now ≡ text.behind_gap false bytes.now }

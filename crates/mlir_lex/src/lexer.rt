@@ -9,7 +9,7 @@ use arith_word::{List, Text};
 use mlir_ir::Token;
 use std::alloc::{AllocError, Global};
 
-/// The token at the front of the bytes, which begin at the place.
+/// The longest token that the bytes begin with; `at` is their byte offset.
 fn token_here(alloc: Global, here: &[u8], at: u32) -> Result<Option<Token>, AllocError>
     requires { at + length here.now < 2 ^ 32 }
     ensures { IfOk result (λ o. MatchOption o (NoneBegins here.now) (λ token. IsTokenAt at here.now token × (0 < length token.text) × (length token.text ≤ length here.now))) }
@@ -17,7 +17,7 @@ fn token_here(alloc: Global, here: &[u8], at: u32) -> Result<Option<Token>, Allo
     let Some((kind, len)) = token_front(here) else {
         return Ok(None)
     };
-    // The bytes of a token are ASCII, so they are a text.
+    // The bytes of a token are ASCII, hence UTF-8.
     Ok(Some(Token {
         kind,
         text: Text::from_front(alloc, here, len)?,
@@ -26,8 +26,8 @@ fn token_here(alloc: Global, here: &[u8], at: u32) -> Result<Option<Token>, Allo
     }))
 }
 
-/// The tokens of a text of fewer than 2^32 bytes: at each place the longest one, with blanks and
-/// comments between them. The fault is at the first byte where no token begins.
+/// The tokens of a text of fewer than 2^32 bytes, by longest match, with whitespace and comments
+/// between them. The lexical error is at the first byte where no token begins.
 #[tactic(auto, using(crate::proofs::Pushed::lexes_more))]
 pub fn tokens(alloc: Global, text: &str) -> Result<List<Token>, LexError>
     requires { length text.now < 2 ^ 32 }

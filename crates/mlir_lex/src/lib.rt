@@ -5,9 +5,11 @@ mod bytes;
 mod error;
 mod front;
 mod gap;
+mod laws;
 mod lexer;
 #[cfg(test)]
 mod tests;
 
 pub use error::{LexError, LexFault};
+pub use laws::one_lexing;
 pub use lexer::tokens;

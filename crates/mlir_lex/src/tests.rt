@@ -4,7 +4,7 @@ use std::alloc::Global;
 use std::process::Abort;
 use std::test::Fail;
 
-/// The kinds and texts of the tokens of a text, one behind the other with their places.
+/// Checks the kinds, the texts and the byte offsets of the tokens of a text.
 fn same_tokens(
     rt: &impl Abort,
     alloc: Global,

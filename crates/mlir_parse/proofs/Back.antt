@@ -1,4 +1,4 @@
--- What a derivation was made of.
+-- The inversion of each rule of `Accepts`.
 use Rattle.std.proofs.Common.{◌≡◌, refl, List, ◌∷◌, ◌⊎◌, inl, inr}
 use Rattle.mlir_ir.specs.Grammar.{Pattern, nothing, one, line, both, either, many, region, body}
 use Rattle.mlir_ir.specs.Texts.{Accepts, no_more, token, by_line, in_turn, left, right, again, enough, in_region}

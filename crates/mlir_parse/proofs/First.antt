@@ -1,4 +1,4 @@
--- What a text may begin with.
+-- The terminals that a match of a pattern may begin with.
 use Rattle.std.proofs.Common.{◌≡◌, Bool, true, false, ◌||◌, ◌&&◌, refl, List, [], ◌∷◌}
 use Rattle.std.specs.List.{list_all}
 use Rattle.mlir_parse.specs.Tables.{terminals, first, empty, first_line, empty_line}

@@ -1,7 +1,8 @@
--- One token decides, whatever stands on the stack.
+-- One token of lookahead decides, for every reachable stack of patterns.
 use Rattle.std.proofs.Common.{◌≡◌, Bool, true, false, ◌||◌, ◌&&◌, not, refl, List, [], ◌∷◌}
 use Rattle.std.specs.List.{list_all}
-use Rattle.mlir_parse.specs.Tables.{terminals, same, first, empty, follow, decides}
+use Rattle.mlir_ir.specs.GrammarNumbers.{same}
+use Rattle.mlir_parse.specs.Tables.{terminals, first, empty, follow, decides}
 use Rattle.mlir_ir.specs.Grammar.{Pattern, nothing, one, line, both, either, many, region, body}
 use Rattle.mlir_parse.proofs.Bools.{every_terminal, every_form, and_left, and_right, more_true, less_false, implied, apart, not_true}
 use Rattle.mlir_parse.proofs.First.{firsts}
@@ -69,16 +70,16 @@ decided (many a) p h =
     )
 decided (region a) p h = decided a (same RightBrace) h
 
--- the check of the whole table
+-- each production passes the test
 pub lines_decide : (f : Form) → Good (body f) (follow f)
 lines_decide f = decided (body f) (follow f) (every_form (λ g. decides (body g) (follow g)) refl f)
 
--- at each place of the stack one token decides
+-- one token of lookahead decides at each pattern of the stack
 abbrev pub Fits : List Pattern → Type 0
 Fits [] = Unit {0}
 Fits (r ∷ ss) = Good r (firsts ss) × Fits ss
 
--- nothing stands behind a whole text
+-- the stack of a whole module
 pub fits_whole : Fits (line Whole ∷ [])
 fits_whole = ((λ c h. cc), tt)
 

@@ -1,6 +1,7 @@
--- The steps of a run, by places.
+-- The steps of a run, by token indices.
 use Rattle.std.proofs.Common.{suc, zero, ◌≡◌, ℕ, ◌+◌, ◌<◌, ◌≤◌, Bool, true, false, ◌||◌, ◌&&◌, refl, List, [], ◌∷◌, length, drop, ap, ◌∙◌, sym, subst, arith, add-one, length-drop, Result, Ok, Err, inl, inr}
-use Rattle.mlir_parse.specs.Tables.{same, empty}
+use Rattle.mlir_ir.specs.GrammarNumbers.{same}
+use Rattle.mlir_parse.specs.Tables.{empty}
 use Rattle.mlir_ir.specs.Grammar.{Pattern, nothing, one, line, both, either, many, region, body}
 use Rattle.mlir_parse.specs.Runs.{Outcome, Done, Stop, Deep, Fails, starts, is_next, Runs, run_nothing, run_one, run_other, run_line, run_both, run_both_fails, run_left, run_right, run_enough, run_again, run_again_fails, run_no_brace, run_too_deep, run_region}
 use Rattle.mlir_parse.specs.Seen.{Gives}
@@ -12,7 +13,7 @@ use Rattle.mlir_parse.specs.declared.fault.Fault.TheVariants.{NoMemory, Syntax, 
 use Rattle.mlir_parse.proofs.Bools.{same_is, same_self, cases_of, both_true}
 use Rattle.mlir_parse.proofs.First.{first_body, empty_body}
 
--- what a run that ends well leaves: less where it may begin, and else the same
+-- a run that succeeds leaves fewer tokens where the first token may begin a match, and never more
 abbrev pub Leaves : Pattern → List Terminal → Outcome → Type 0
 Leaves r ts (Done us) =
     (length us ≤ length ts) × (starts r ts ≡ true → length us < length ts) × (starts r ts ≡ false → (us ≡ ts) × (empty r ≡ true))
@@ -147,7 +148,7 @@ leaves (run_region {a} {ts} {o} h d) = leaves_region a ts o (leaves d)
 pub gives_nothing : (n : ℕ) (ts : List Terminal) (at : ℕ) → at ≤ length ts → Gives n nothing ts at (Ok at)
 gives_nothing n ts at h = (omega arith, h, run_nothing)
 
--- the token at a place
+-- the token at an index
 found_next : (c : Terminal) (ts : List Terminal) (at : ℕ) → is_next c (drop at ts) ≡ true → (at < length ts) × (drop at ts ≡ c ∷ drop (suc at) ts)
 found_next c [] zero e = cc
 found_next c [] (suc at) e = cc

@@ -1,4 +1,4 @@
--- The branches that each step of the reader adds.
+-- The branches that each step of the reader appends.
 use Rattle.std.proofs.Common.{suc, zero, ◌≡◌, ℕ, ◌+◌, ◌<◌, true, List, [], ◌∷◌, ◌++◌, refl, ap, ◌∙◌, sym, subst, take, drop, length, Some, slice_get}
 use Rattle.std.proofs.lemmas.List.{append-nil, append_assoc}
 use Rattle.std.proofs.Math.Seq.{take-append_seam, drop-append_seam}
@@ -46,7 +46,7 @@ module _ (ts : List Terminal) where
   grows_one n c at old new b e p h =
       record { row = b ∷ []; grown = e; derived = subst (λ x. Derives ts n (one c) at x (at + 1)) (sym (p none)) (derive_one (token_at c ts at h) refl) }
 
-  -- a line whose parts were read apart
+  -- a nonterminal whose children were read into a list of their own
   pub grows_parts : (n : ℕ) (f : Form) (at next : ℕ) (old parts new : List Branch) (b : Branch)
       → new ≡ old ++ b ∷ [] → ((rest : Forest) → put b rest ≡ node f at (forest parts) rest) → Grows ts n (body f) at [] parts next → Grows ts n (line f) at old new next
   grows_parts n f at next old parts new b e p g =

@@ -1,4 +1,4 @@
--- How many regions are open behind what a run has read.
+-- The number of open regions after the tokens that a run has read.
 use Rattle.std.proofs.Common.{suc, zero, ◌≡◌, ℕ, ◌<◌, ◌≤◌, Bool, true, false, ◌||◌, ◌&&◌, not, List, [], ◌∷◌, ◌++◌, take, refl, ap, ◌∙◌, sym, subst, arith, append_assoc, add-one, ◌⊎◌, inl, inr}
 use Rattle.std.proofs.lemmas.Bool.{and_parts, or_cases, both_ways, cases_Bool, not-true}
 use Rattle.mlir_ir.specs.Grammar.{Pattern, nothing, one, line, both, either, many, region, body}
@@ -10,7 +10,7 @@ use Rattle.mlir_ir.specs.declared.syntax.Form.TheVariants.{Whole}
 use Rattle.mlir_parse.specs.Runs.{Outcome, Done, Stop, Deep, Fails, Runs, run_nothing, run_one, run_other, run_line, run_both, run_both_fails, run_left, run_right, run_enough, run_again, run_again_fails, run_no_brace, run_too_deep, run_region}
 use Rattle.mlir_parse.proofs.Bools.{every_form}
 
--- with so many braces open, never more than the bound while these are read, and so many behind them
+-- from `n` open braces to `m`, and never more than the bound between
 abbrev pub Level : ℕ → ℕ → List Terminal → ℕ → Type 0
 Level bound n [] m = n ≡ m
 Level bound n (c ∷ x) m = (step n c ≤ bound) × (closes c ≡ true → 0 < n) × Level bound (step n c) x m
@@ -19,7 +19,7 @@ pub level-append : (bound n m k : ℕ) (x y : List Terminal) → Level bound n x
 level-append bound n m k [] y first second = subst (λ z. Level bound z y k) (sym first) second
 level-append bound n m k (c ∷ x) y first second = (first.0, first.1, level-append bound (step n c) m k x y first.2 second)
 
--- the bound holds at each place
+-- the bound holds for each prefix
 pub level_within : (bound n m : ℕ) (x : List Terminal) → n ≤ bound → Level bound n x m → (k : ℕ) → opened n (take k x) ≤ bound
 level_within bound n m [] low level zero = low
 level_within bound n m [] low level (suc k) = low
@@ -44,7 +44,7 @@ step_shift n c some =
       ]
     ]
 
--- the same with one more brace around
+-- an enclosing pair of braces raises all levels by one
 pub level_shift : (bound n m : ℕ) (x : List Terminal) → Level bound n x m → Level (suc bound) (suc n) x (suc m)
 level_shift bound n m [] level = ap suc level
 level_shift bound n m (c ∷ x) level =
@@ -55,7 +55,7 @@ abbrev pub is_whole : Form → Bool
 is_whole Whole = true
 is_whole _ = false
 
--- what has no braces but those of regions
+-- a pattern whose braces are those of regions
 abbrev pub plain : Pattern → Bool
 plain nothing = true
 plain (one c) = not (opens c) && not (closes c)
@@ -72,7 +72,7 @@ plain_body f h =
       | inr is ↦ is
     ]
 
--- a front was read, with so many regions open behind it
+-- the run read a prefix, from `n` open regions to `m`, and left the rest
 abbrev pub Reached : ℕ → List Terminal → List Terminal → ℕ → Type 0
 Reached n ts us m = (x : List Terminal) × (ts ≡ x ++ us) × Level 12 n x m
 
@@ -81,7 +81,7 @@ LevelOf n ts (Done us) = Reached n ts us n
 LevelOf n ts (Stop us) = (m : ℕ) × Reached n ts us m
 LevelOf n ts (Deep us) = Reached n ts us 12 × ((v : List Terminal) × (us ≡ LeftBrace ∷ v))
 
--- the same where a brace ends it
+-- the result of a run inside a region, which began with one region more than it ends with
 abbrev pub ClosedOf : ℕ → List Terminal → Outcome → Type 0
 ClosedOf n ts (Done us) = Reached (suc n) ts us n
 ClosedOf n ts (Stop us) = (m : ℕ) × Reached (suc n) ts us m
@@ -114,7 +114,7 @@ closed_fails n ts (Done us) failed level = absurd failed
 closed_fails n ts (Stop us) failed level = level
 closed_fails n ts (Deep us) failed level = level
 
--- a brace that opens a region stands before it
+-- a region after its opening brace
 opened_front : (n m : ℕ) (x : List Terminal) → n < 12 → Level 12 (suc n) x m → Level 12 n (LeftBrace ∷ x) m
 opened_front n m x low l = let up : step n LeftBrace ≡ suc n = omega arith in (omega arith, λ e. cc, subst (λ z. Level 12 z x m) (sym up) l)
 
@@ -131,7 +131,7 @@ one_level n c p low =
     let still : step n c ≡ n = rw (no_open, no_close) refl in
     (omega (arith, still), λ e. absurd (both_ways (closes c) no_close e), still)
 
--- how many regions are open behind what was read, at most twelve
+-- the number of open regions after the tokens read is at most twelve
 pub level : {n : ℕ} {r : Pattern} {ts : List Terminal} {o : Outcome} → Runs n r ts o → plain r ≡ true → n ≤ 12 → LevelOf n ts o
 level run_nothing p low = ([], refl, refl)
 level (run_one {n} {c}) p low = (c ∷ [], refl, one_level n c p low)

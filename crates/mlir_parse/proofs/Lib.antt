@@ -15,9 +15,9 @@ pub mod Grows
 pub mod Unique
 pub mod Table
 pub mod Roots
+pub mod Operations
 pub mod Hopes
 pub mod Parsed
 pub mod Trees
-pub mod Lexed
 pub mod Faults
 pub mod OneAnswer

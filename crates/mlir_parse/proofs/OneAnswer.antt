@@ -1,4 +1,4 @@
--- A text has one syntax or one fault, and never both.
+-- A text has at most one syntax, at most one syntax error, and not both.
 use Rattle.std.proofs.Common.{◌≡◌, ℕ, List, length, map, refl, ap, ◌∙◌, sym, subst}
 use Rattle.mlir_ir.specs.Terminals.{terminal_of}
 use Rattle.mlir_ir.specs.Texts.{IsNotHere, IsOtherFault, IsTooDeep}
@@ -12,14 +12,14 @@ use Rattle.mlir_parse.specs.Refused.{IsFaultAt, IsRefused}
 use Rattle.mlir_parse.specs.declared.parser.ParseFault.{ParseFault}
 use Rattle.mlir_parse.specs.declared.parser.ParseFault.TheVariants as faults
 use Rattle.mlir_parse.proofs.Unique.{one_tree}
-use Rattle.mlir_parse.proofs.Lexed.{one_lex}
+use Rattle.mlir_lex.proofs.Lexed.{one_lex}
 use Rattle.mlir_parse.proofs.Faults.{one_other, one_not_here, one_depth, here_or_other, here_or_depth, other_or_depth, tree_goes_on, tree_not_deep}
 
--- two syntaxes that stand for the same tokens have the same tree
+-- syntaxes of the same tokens have the same tree
 pub one_standing : (tokens : List Token) (s t : Syntax) → StandsFor s tokens → StandsFor t tokens → (s.tokens ≡ t.tokens) × (put s.root none ≡ put t.root none)
 one_standing tokens s t a b = (a.same ∙ sym b.same, one_tree (map terminal_of tokens) (put s.root none) (put t.root none) a.tree b.tree)
 
--- two syntaxes of a text have the same tokens, the same length and the same tree
+-- syntaxes of the same text have the same tokens, length and tree
 pub one_syntax : (text : List ℕ) (s t : Syntax) → IsSyntaxOf text s → IsSyntaxOf text t
     → (s.tokens ≡ t.tokens) × (s.length ≡ t.length) × (put s.root none ≡ put t.root none)
 one_syntax text s t a b =
@@ -28,7 +28,7 @@ one_syntax text s t a b =
     subst (λ (ts : List Token). IsTreeOf (map terminal_of ts) (put t.root none)) (sym same) b.stands.tree in
     (same, a.length_is ∙ sym b.length_is, one_tree (map terminal_of s.tokens) (put s.root none) (put t.root none) a.stands.tree other)
 
--- the fault on the tokens of the other one
+-- the syntax error of one token list of a text is that of any other
 on_tokens : (IsFault : List Terminal → ℕ → Type 0) (text : List ℕ) (tokens : List Token) (byte : ℕ) (at : IsFaultAt IsFault text byte) → at.tokens ≡ tokens
     → IsFault (map terminal_of tokens) at.token × (byte ≡ place_of tokens (length text) at.token)
 on_tokens IsFault text tokens byte at same = (
@@ -52,7 +52,7 @@ never_both IsFault IsOther apart text a b first second =
 not_lex : (IsFault : List Terminal → ℕ → Type 0) (text : List ℕ) (a b : ℕ) → IsRefused text (faults.Lex a) → IsFaultAt IsFault text b → ⊥
 not_lex IsFault text a b first second = not_both text second.tokens a second.lexed first
 
--- two faults of a text are the same
+-- syntax errors of the same text are equal
 pub one_fault : (text : List ℕ) (e f : ParseFault) → IsRefused text e → IsRefused text f → (e ≡ faults.NoMemory → ⊥) → (f ≡ faults.NoMemory → ⊥) → e ≡ f
 one_fault text faults.NoMemory f h k p q = absurd (p refl)
 one_fault text (faults.Lex a) faults.NoMemory h k p q = absurd (q refl)
@@ -76,13 +76,13 @@ one_fault text (faults.TooDeep a) (faults.Syntax b) h k p q = absurd (never_both
 one_fault text (faults.TooDeep a) (faults.NotHere b) h k p q = absurd (never_both IsNotHere IsTooDeep here_or_depth text b a k h)
 one_fault text (faults.TooDeep a) (faults.TooDeep b) h k p q = ap faults.TooDeep (same_byte IsTooDeep one_depth text a b h k)
 
--- tokens with a tree and no such fault
+-- tokens with a tree have no syntax error
 fault_of_syntax : (IsFault : List Terminal → ℕ → Type 0) (text : List ℕ) (s : Syntax) (byte : ℕ)
     → ((k : ℕ) → IsFault (map terminal_of s.tokens) k → ⊥) → IsSyntaxOf text s → IsFaultAt IsFault text byte → ⊥
 fault_of_syntax IsFault text s byte never of_text at =
     never at.token (on_tokens IsFault text s.tokens byte at (at_most_one text at.tokens s.tokens at.lexed of_text.lexed)).0
 
--- a text with a syntax has no fault
+-- a text with a syntax has no syntax error
 pub no_fault : (text : List ℕ) (s : Syntax) (e : ParseFault) → IsSyntaxOf text s → IsRefused text e → e ≡ faults.NoMemory
 no_fault text s faults.NoMemory h k = refl
 no_fault text s (faults.Lex a) h k = absurd (not_both text s.tokens a h.lexed k)

@@ -1,6 +1,7 @@
--- No other way could go on.
+-- A run is the only way to match the tokens.
 use Rattle.std.proofs.Common.{◌≡◌, ℕ, Bool, true, false, ◌||◌, ◌&&◌, refl, List, [], ◌∷◌, ◌++◌, ap, ◌∙◌, sym, subst, inl, inr, append_assoc, Option, Some, None}
-use Rattle.mlir_parse.specs.Tables.{same, first, empty}
+use Rattle.mlir_ir.specs.GrammarNumbers.{same}
+use Rattle.mlir_parse.specs.Tables.{first, empty}
 use Rattle.mlir_ir.specs.Grammar.{Pattern, one, line, both, either, many, region, body}
 use Rattle.mlir_ir.specs.Texts.{Accepts, in_turn}
 use Rattle.mlir_parse.specs.Runs.{Outcome, Done, Stop, Deep, Fails, starts, is_next, Runs, run_nothing, run_one, run_other, run_line, run_both, run_both_fails, run_left, run_right, run_enough, run_again, run_again_fails, run_no_brace, run_too_deep, run_region}
@@ -17,7 +18,7 @@ abbrev pub next : List Terminal → Option Terminal
 next [] = None
 next (c ∷ ts) = Some c
 
--- what any text that begins so, and goes on with the same token, has to be
+-- every match that begins with the tokens read, and goes on with the same token, leaves a match of the rest of the stack
 abbrev pub Only : Pattern → List Terminal → Outcome → Type 0
 Only r ts (Done us) =
     (x : List Terminal) × (ts ≡ x ++ us) × ((ss : List Pattern) (w : List Terminal) → Fits (r ∷ ss) → next w ≡ next us → Accepts (r ∷ ss) (x ++ w) → Accepts ss w)
@@ -32,7 +33,7 @@ next_front (c ∷ x) w us h = refl
 tail_of : {c d : Terminal} {us vs : List Terminal} → c ∷ us ≡ d ∷ vs → us ≡ vs
 tail_of e = cc
 
--- a text that begins with a token that may begin the first part has no other first part
+-- a match whose first token may begin the first pattern doesn't skip this pattern
 not_other : (r : Pattern) (ss : List Pattern) (ts us : List Terminal) → next us ≡ next ts → ((c : Terminal) → first r c ≡ true → firsts ss c ≡ false) → starts r ts ≡ true → Accepts ss us → ⊥
 not_other r ss [] us e none_of h d = cc
 not_other r ss (c ∷ ts) [] e none_of h d = cc
@@ -43,7 +44,7 @@ not_other r ss (c ∷ ts) (b ∷ us) e none_of h d =
     let is_not : firsts ss c ≡ false = none_of c h in
     cc
 
--- a text that begins with a token that can't begin the first part doesn't begin with it
+-- a match whose first token can't begin the first pattern doesn't begin with this pattern
 not_this : (a : Pattern) (ss : List Pattern) (ts us : List Terminal) → next us ≡ next ts → empty a ≡ false → starts a ts ≡ false → Accepts (a ∷ ss) us → ⊥
 not_this a ss ts [] e full h d =
     let is : empty a ≡ true = and_left (empty a) (empties ss) (empties_of d) in cc

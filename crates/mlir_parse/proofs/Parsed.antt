@@ -1,4 +1,4 @@
--- What the parts of the parser say of a text.
+-- The syntax or the syntax error of a text, from the results of the lexer and the reader.
 use Rattle.std.proofs.Common.{◌≡◌, ℕ, ◌<◌, ◌≤◌, List, length, map, refl, ap, ◌∙◌, subst, arith}
 use Rattle.std.proofs.lemmas.List.{length-map}
 use Rattle.mlir_ir.specs.Tokens.{AreTokens}
@@ -11,7 +11,7 @@ use Rattle.mlir_ir.specs.declared.terminal.Terminal.{Terminal}
 use Rattle.mlir_ir.proofs.TokenLaws.{token_count}
 use Rattle.mlir_parse.specs.Refused.{IsFaultAt}
 
--- few bytes have few terminals
+-- a text of fewer than 2^32 bytes has fewer than 2^32 tokens
 pub few_terminals : (text : List ℕ) (tokens : List Token) (terminals : List Terminal) (bound : ℕ)
     → AreTokens text tokens → terminals ≡ map terminal_of tokens → length text < bound → length terminals < bound
 few_terminals text tokens terminals bound lexed are few =
@@ -19,7 +19,7 @@ few_terminals text tokens terminals bound lexed are few =
     let same : length terminals ≡ length tokens = ap length are ∙ length-map tokens terminal_of in
     omega (arith, count, same, few)
 
--- the tokens with their tree are the syntax
+-- the tokens and their tree are the syntax of the text
 pub syntax_is : (text : List ℕ) (syntax : Syntax) (terminals : List Terminal)
     → AreTokens text syntax.tokens → syntax.length ≡ length text → terminals ≡ map terminal_of syntax.tokens → IsTreeOf terminals (put syntax.root none) → IsSyntaxOf text syntax
 syntax_is text syntax terminals lexed long are tree =
@@ -29,7 +29,7 @@ syntax_is text syntax terminals lexed long are tree =
       stands = record { same = refl; text = text; length_is = long; lexed = lexed; tree = subst (λ (ts : List Terminal). IsTreeOf ts (put syntax.root none)) are tree };
     }
 
--- the fault at the byte of its token
+-- a syntax error by the byte offset of its token
 pub fault_at : (IsFault : List Terminal → ℕ → Type 0) (text : List ℕ) (tokens : List Token) (terminals : List Terminal) (token byte : ℕ)
     → AreTokens text tokens → terminals ≡ map terminal_of tokens → IsFault terminals token → byte ≡ place_of tokens (length text) token → IsFaultAt IsFault text byte
 fault_at IsFault text tokens terminals token byte lexed are fault here =

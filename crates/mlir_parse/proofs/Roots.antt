@@ -1,4 +1,4 @@
--- What a run over the whole tokens gives: the tree, or the fault.
+-- A run over all tokens gives their tree or their syntax error.
 use Rattle.std.proofs.Common.{◌≡◌, ℕ, ◌<◌, ◌≤◌, List, [], length, drop, sym, subst, arith, Ok, Err}
 use Rattle.mlir_ir.specs.Grammar.{Pattern, body}
 use Rattle.mlir_ir.specs.Texts.{IsSyntaxFault}

@@ -1,4 +1,4 @@
--- Sets of terminals as numbers.
+-- Sets of terminals as bit masks.
 use Rattle.std.proofs.Common.{zero, suc, ◌≡◌, ℕ, ◌<◌, ◌^◌, ◌==◌, max, Bool, true, false, ◌||◌, ◌&&◌, if◌then◌else◌, List, [], ◌∷◌, refl, ap, ◌∙◌, sym, inl, inr, arith, bit_or}
 use Rattle.std.specs.Int.{bit_at}
 use Rattle.std.proofs.lemmas.Nat.Bits.{bit_at_or, bit_at-zero, bit_at-lt, bit_at-pow_same, bit_at-pow_other}
@@ -6,7 +6,8 @@ use Rattle.std.proofs.lemmas.Bool.{cases_Bool, eqb-true, eqb-false}
 use Rattle.mlir_ir.specs.Grammar.{Pattern, nothing, one, line, both, either, many, region}
 use Rattle.mlir_ir.specs.declared.terminal.Terminal.{Terminal}
 use Rattle.mlir_ir.specs.declared.terminal.Terminal.TheVariants.{LeftBrace}
-use Rattle.mlir_parse.specs.Tables.{number, same, among, line_firsts, empty, first, mark, marks, has, first_set}
+use Rattle.mlir_ir.specs.GrammarNumbers.{number, same}
+use Rattle.mlir_parse.specs.Tables.{among, line_firsts, empty, first, mark, marks, has, first_set}
 
 has_none : (c : Terminal) → has 0 c ≡ false
 has_none c = ap (λ b. b == 1) (bit_at-zero (number c))
@@ -46,7 +47,7 @@ has_both : (e : Bool) (m n : ℕ) (c : Terminal) (p q : Bool) → has m c ≡ p 
 has_both true m n c p q h k = has_or m n c ∙ ap (λ b. b || has n c) h ∙ ap (λ b. p || b) k
 has_both false m n c p q h k = h ∙ sym (or_false p)
 
--- the set has what may begin
+-- the first set of a pattern has exactly the terminals that a match may begin with
 pub has_first : (r : Pattern) (c : Terminal) → has (first_set r) c ≡ first r c
 has_first nothing c = has_none c
 has_first (one d) c = has_mark d c

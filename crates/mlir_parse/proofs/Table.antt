@@ -1,7 +1,7 @@
--- The table of the lines.
+-- The table of the productions.
 use Rattle.std.proofs.Common.{◌≡◌, ◌<◌, List, [], ◌∷◌, length, subst, sym, slice_index_or, lit<}
 use Rattle.mlir_ir.specs.Grammar.{body}
-use Rattle.mlir_parse.specs.Tables.{form_at}
+use Rattle.mlir_ir.specs.GrammarNumbers.{form_at}
 use Rattle.mlir_parse.specs.Seen.{Stands, AreLines}
 use Rattle.mlir_parse.specs.declared.rule.Rule.{Rule}
 use Rattle.mlir_ir.specs.declared.syntax.Form.{Form}
@@ -44,7 +44,7 @@ these_are r0 r1 r2 r3 r4 r5 r6 r7 r8 r9 r10 r11 r12 r13 r14 r15 r16 h0 h1 h2 h3 
 these_are r0 r1 r2 r3 r4 r5 r6 r7 r8 r9 r10 r11 r12 r13 r14 r15 r16 h0 h1 h2 h3 h4 h5 h6 h7 h8 h9 h10 h11 h12 h13 h14 h15 h16 Region = (lit< tt, λ d. h15)
 these_are r0 r1 r2 r3 r4 r5 r6 r7 r8 r9 r10 r11 r12 r13 r14 r15 r16 h0 h1 h2 h3 h4 h5 h6 h7 h8 h9 h10 h11 h12 h13 h14 h15 h16 Flags = (lit< tt, λ d. h16)
 
--- seventeen right sides in the order of the forms are the lines
+-- seventeen right-hand sides in the order of the forms are the productions
 pub lines_are : (r0 r1 r2 r3 r4 r5 r6 r7 r8 r9 r10 r11 r12 r13 r14 r15 r16 : Rule) (rules : List Rule) → rules ≡ r0 ∷ r1 ∷ r2 ∷ r3 ∷ r4 ∷ r5 ∷ r6 ∷ r7 ∷ r8 ∷ r9 ∷ r10 ∷ r11 ∷ r12 ∷ r13 ∷ r14 ∷ r15 ∷ r16 ∷ []
     → Stands r0 (body Leaf)
     → Stands r1 (body Whole)

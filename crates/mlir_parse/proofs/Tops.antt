@@ -1,4 +1,4 @@
--- How many regions are open behind what a run over a whole text has read.
+-- The number of open regions after the tokens that a run over a module has read.
 use Rattle.std.proofs.Common.{suc, zero, ◌≡◌, ℕ, ◌-◌, Bool, true, false, ◌||◌, ◌&&◌, List, [], ◌∷◌, ◌++◌, refl, ap, ◌∙◌, sym, subst, arith, append_assoc, ◌⊎◌, inl, inr}
 use Rattle.mlir_ir.specs.Grammar.{Pattern, nothing, one, line, both, either, many, body, maybe, ◌~◌}
 use Rattle.mlir_ir.specs.Texts.{is_module, regions, IsShallow}
@@ -6,7 +6,8 @@ use Rattle.mlir_ir.specs.declared.terminal.Terminal.{Terminal}
 use Rattle.mlir_ir.specs.declared.terminal.Terminal.TheVariants.{Module, Function, Symbol, LeftBrace, RightBrace}
 use Rattle.mlir_ir.specs.declared.syntax.Form.{Form}
 use Rattle.mlir_ir.specs.declared.syntax.Form.TheVariants.{Whole, Func}
-use Rattle.mlir_parse.specs.Tables.{first, same}
+use Rattle.mlir_ir.specs.GrammarNumbers.{same}
+use Rattle.mlir_parse.specs.Tables.{first}
 use Rattle.mlir_parse.specs.Runs.{Outcome, Done, Stop, Deep, Fails, starts, Runs, run_nothing, run_line, run_both, run_both_fails, run_left, run_right}
 use Rattle.mlir_parse.proofs.Bools.{same_is}
 use Rattle.mlir_parse.proofs.Levels.{Level, LevelOf, level, level-append, level_within, level_ends, level_shift, of_run_one}
@@ -27,7 +28,7 @@ of_run_line (run_line d) = d
 of_run_nothing : {n : ℕ} {ts : List Terminal} {o : Outcome} → Runs n nothing ts o → o ≡ Done ts
 of_run_nothing run_nothing = refl
 
--- what was read is shallow; where it stopped at a brace, twelve regions are open
+-- the tokens read have at most twelve open regions, and exactly twelve where the run stopped at a brace
 abbrev pub TopOf : List Terminal → Outcome → Type 0
 TopOf ts (Done us) = (x : List Terminal) × (ts ≡ x ++ us) × IsShallow x
 TopOf ts (Stop us) = (x : List Terminal) × (ts ≡ x ++ us) × IsShallow x
@@ -37,7 +38,7 @@ shallow_nothing : IsShallow []
 shallow_nothing zero = omega arith
 shallow_nothing (suc k) = omega arith
 
--- no module begins
+-- the tokens don't begin with `module`
 shallow_plain : (c : Terminal) (x : List Terminal) (m : ℕ) → is_module c ≡ false → Level 12 0 (c ∷ x) m → IsShallow (c ∷ x)
 shallow_plain c x m no_module level zero = omega arith
 shallow_plain c x m no_module level (suc k) = let low = level_within 12 0 m (c ∷ x) (omega arith) level (suc k) in rw no_module low
@@ -45,7 +46,7 @@ shallow_plain c x m no_module level (suc k) = let low = level_within 12 0 m (c �
 regions_plain : (c : Terminal) (x : List Terminal) (m : ℕ) → is_module c ≡ false → Level 12 0 (c ∷ x) m → regions (c ∷ x) ≡ m
 regions_plain c x m no_module level = rw no_module (level_ends 12 0 m (c ∷ x) level)
 
--- a module begins
+-- the tokens begin with `module`
 shallow_module : (x : List Terminal) (m : ℕ) → Level 13 0 (Module ∷ x) m → IsShallow (Module ∷ x)
 shallow_module x m level zero = omega arith
 shallow_module x m level (suc k) = let low = level_within 13 0 m (Module ∷ x) (omega arith) level (suc k) in omega (arith, low)
@@ -53,7 +54,7 @@ shallow_module x m level (suc k) = let low = level_within 13 0 m (Module ∷ x) 
 regions_module : (x : List Terminal) (m : ℕ) → Level 13 0 (Module ∷ x) m → regions (Module ∷ x) ≡ m - 1
 regions_module x m level = let ends = level_ends 13 0 m (Module ∷ x) level in ap (λ z. z - 1) ends
 
--- in a module, whose own brace counts: so many braces before, and so many behind a whole text
+-- inside the braces of `module`, which count here: the open braces before the tokens read, and after a whole match
 abbrev pub ModuleOf : ℕ → ℕ → List Terminal → Outcome → Type 0
 ModuleOf n k ts (Done us) = (x : List Terminal) × (ts ≡ x ++ us) × Level 13 n x k
 ModuleOf n k ts (Stop us) = (m : ℕ) × (x : List Terminal) × (ts ≡ x ++ us) × Level 13 n x m
@@ -79,7 +80,7 @@ module_turn n k j a b first second ts o r =
       | inr (d, failed) ↦ module_fails n k j ts o failed (first ts o d)
     ]
 
--- one token in a module
+-- a run over one token inside the braces of `module`
 one_of : (n k : ℕ) (c : Terminal) → Level 13 n (c ∷ []) k → (ts : List Terminal) (o : Outcome) → Runs 0 (one c) ts o → ModuleOf n k ts o
 one_of n k c l ts o r =
     elim (of_run_one r) [
@@ -116,7 +117,7 @@ module_of =
     functions_of)
     (one_of 1 0 RightBrace (omega arith, λ e. omega arith, refl))
 
--- the front of tokens that begin with `module`
+-- the tokens read, where they begin with `module`
 module_top : (ts : List Terminal) (o : Outcome) → ModuleOf 0 0 (Module ∷ ts) o → TopOf (Module ∷ ts) o
 module_top ts (Done us) ([], e, l) = ([], e, shallow_nothing)
 module_top ts (Done us) (c ∷ x, e, l) =
@@ -137,7 +138,7 @@ module_top ts (Deep us) (c ∷ x, e, l, brace) =
       brace,
     )
 
--- the front of tokens that begin otherwise
+-- the tokens read, where they don't begin with `module`
 plain_top : (c : Terminal) (ts : List Terminal) (o : Outcome) → is_module c ≡ false → LevelOf 0 (c ∷ ts) o → TopOf (c ∷ ts) o
 plain_top c ts (Done us) other ([], e, l) = ([], e, shallow_nothing)
 plain_top c ts (Done us) other (d ∷ x, e, l) =
@@ -174,7 +175,7 @@ module_first (c ∷ ts) o begins r =
     only_first true h = refl
     only_first false h = h
 
--- what a run over a whole text has read
+-- the tokens that a run over a whole module has read
 pub top : (ts : List Terminal) (o : Outcome) → Runs 0 (body Whole) ts o → TopOf ts o
 top ts o r =
     elim (of_run_either r) [

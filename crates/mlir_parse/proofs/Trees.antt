@@ -1,4 +1,4 @@
--- A tree is a run, so the tokens of a tree are shallow.
+-- A tree is a run, so its tokens are within the limit on open regions.
 use Rattle.std.proofs.Common.{suc, ◌≡◌, ℕ, ◌+◌, ◌<◌, Bool, true, false, List, [], ◌∷◌, ◌++◌, length, drop, refl, ap, ◌∙◌, sym, subst, add-one, inl, inr}
 use Rattle.std.proofs.lemmas.List.{append-nil}
 use Rattle.std.proofs.Math.Seq.{drop-length}
@@ -17,12 +17,12 @@ use Rattle.mlir_parse.proofs.Levels.{of_run_one}
 use Rattle.mlir_parse.proofs.Tops.{of_run_line, top}
 use Rattle.mlir_parse.proofs.Unique.{token_here, begins_with, derives_accepts}
 
--- what has a token begins with it
+-- a match of a pattern that has no empty match begins with a token of its first set
 starts_by : (a : Pattern) (ss : List Pattern) (us : List Terminal) → empty a ≡ false → Accepts (a ∷ ss) us → starts a us ≡ true
 starts_by a ss [] full d = let is : empty a ≡ true = and_left (empty a) (empties ss) (empties_of d) in cc
 starts_by a ss (c ∷ us) full d = begins_with (first a c) (empty a) (firsts ss c) full (first_of d)
 
--- what goes on without it doesn't begin with it
+-- a match of the rest of the stack begins with no token of the pattern's first set
 starts_not : (a : Pattern) (qs : List Pattern) (us : List Terminal) → ((c : Terminal) → first a c ≡ true → firsts qs c ≡ false) → Accepts qs us → starts a us ≡ false
 starts_not a qs [] apart d = refl
 starts_not a qs (c ∷ us) apart d = never (first a c) (firsts qs c) (apart c) (first_of d)
@@ -31,7 +31,7 @@ starts_not a qs (c ∷ us) apart d = never (first a c) (firsts qs c) (apart c) (
     never true q f h = let m : q ≡ false = f refl in cc
     never false q f h = refl
 
--- a region was read in its braces
+-- a run over a region, between its braces
 in_braces : {n : ℕ} {a : Pattern} {ts : List Terminal} {o : Outcome} → n < 12 → Runs (n + 1) (both (one LeftBrace) (both a (one RightBrace))) ts o → (Fails o → ⊥) → Runs n (region a) ts o
 in_braces {n} {a} {ts} {o} low (run_both {us = us} d k) done =
     elim (of_run_one d) [
@@ -45,7 +45,7 @@ in_braces {n} {a} {ts} {o} low (run_both {us = us} d k) done =
     never us ts is = cc
 in_braces low (run_both_fails d failed) done = absurd (done failed)
 
--- at each place the next token decides as the tree did
+-- at each choice the next token decides as the tree did
 pub tree_runs : {ts : List Terminal} {n : ℕ} {r : Pattern} {at next : ℕ} {xs : Forest} → Derives ts n r at xs next
     → (ss : List Pattern) → Fits (r ∷ ss) → Accepts ss (drop next ts) → Runs n r (drop at ts) (Done (drop next ts))
 tree_runs derive_nothing ss fits a = run_nothing
@@ -65,7 +65,7 @@ tree_runs (derive_enough {a = p}) ss fits a = run_enough (starts_not p ss _ fits
 tree_runs (derive_region {a = p} low d) ss fits a =
     let deeper = fits_deep p ss fits in in_braces low (tree_runs d ss ((tt, (deeper.0, tt)), deeper.1.1) a) (λ failed. failed)
 
--- the tokens of a tree are shallow
+-- the tokens of a tree are within the limit on open regions
 pub tree_shallow : (ts : List Terminal) (xs : Forest) → IsTreeOf ts xs → IsShallow ts
 tree_shallow ts xs d =
     let done : Accepts [] (drop (length ts) ts) = subst (λ (z : List Terminal). Accepts [] z) (sym (drop-length ts)) ends in

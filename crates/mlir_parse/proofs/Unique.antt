@@ -17,7 +17,7 @@ token_here [] at c e = cc
 token_here (b ∷ ts) zero c e = let same_token : b ≡ c = cc in ap (λ x. x ∷ ts) same_token
 token_here (b ∷ ts) (suc at) c e = token_here ts at c e
 
--- a tree is a derivation
+-- the tokens of a tree match its pattern
 pub derives_accepts : {ts : List Terminal} {depth : ℕ} {r : Pattern} {at next : ℕ} {xs : Forest} → Derives ts depth r at xs next → (ss : List Pattern) → Accepts ss (drop next ts) → Accepts (r ∷ ss) (drop at ts)
 derives_accepts derive_nothing ss a = no_more a
 derives_accepts {ts} (derive_one {at = at} {c = c} h e) ss a =
@@ -43,7 +43,7 @@ begins_with true e s h k = refl
 begins_with false true s h k = cc
 begins_with false false s h k = k
 
--- no text begins with one of two parts that one token parts, and also goes on without it
+-- tokens don't match both the pattern with its stack and a stack whose first set is disjoint from the pattern's
 not_two : (a : Pattern) (ss qs : List Pattern) (us : List Terminal) → empty a ≡ false → ((c : Terminal) → first a c ≡ true → firsts qs c ≡ false) → Accepts (a ∷ ss) us → Accepts qs us → ⊥
 not_two a ss qs [] full f d k = let is : empty a ≡ true = and_left (empty a) (empties ss) (empties_of d) in cc
 not_two a ss qs (c ∷ us) full f d k =
@@ -86,7 +86,7 @@ unique derive_enough derive_enough ss fits x y = record { place = refl; trees = 
 unique (derive_region {a = a} shallow d) (derive_region also k) ss fits x y =
     let deeper = fits_deep a ss fits in unique d k ss ((tt, (deeper.0, tt)), deeper.1.1) x y
 
--- the law: the tokens have at most one tree
+-- tokens have at most one tree
 pub one_tree : (ts : List Terminal) (xs ys : Forest) → IsTreeOf ts xs → IsTreeOf ts ys → xs ≡ ys
 one_tree ts xs ys d k =
     let P : List Terminal → Type 0 = λ z. Accepts [] z in

@@ -1,4 +1,4 @@
--- What was read begins some text.
+-- The tokens that a run has read are a prefix of a module's token sequence.
 use Rattle.std.proofs.Common.{◌≡◌, ℕ, suc, zero, Bool, true, false, ◌&&◌, refl, List, [], ◌∷◌, ◌++◌, ap, ◌∙◌, sym, subst, append_assoc}
 use Rattle.mlir_ir.specs.Grammar.{Pattern, nothing, one, line, both, either, many, region, body}
 use Rattle.mlir_ir.specs.Texts.{Accepts, no_more, token, by_line, in_turn, left, right, again, enough, in_region}
@@ -9,7 +9,7 @@ use Rattle.mlir_ir.specs.declared.terminal.Terminal.{Terminal}
 use Rattle.mlir_ir.specs.declared.terminal.Terminal.TheVariants.{LeftBrace, RightBrace}
 use Rattle.mlir_ir.specs.declared.syntax.Form.{Form}
 
--- whether a text of it is known once texts of these lines are
+-- whether the pattern has a match, once these nonterminals have one
 abbrev pub ready_with : (Form → Bool) → Pattern → Bool
 ready_with known nothing = true
 ready_with known (one c) = true
@@ -23,7 +23,7 @@ abbrev pub ready_line : ℕ → Form → Bool
 ready_line zero f = false
 ready_line (suc n) f = ready_with (ready_line n) (body f)
 
--- each text of the rest has a text with one of it before
+-- each match of the rest of the stack extends to a match with the pattern first
 abbrev pub Completes : Pattern → Type 0
 Completes r = (ss : List Pattern) (u : List Terminal) → Accepts ss u → (v : List Terminal) × Accepts (r ∷ ss) v
 
@@ -60,7 +60,7 @@ ready_all (region a) = ready_all a
 pub completes : (r : Pattern) → Completes r
 completes r = completes_with (λ f. true) (λ f h. completes_line 9 f (all_ready f)) r (ready_all r)
 
--- what was read, and how a text goes on from there, with these tokens first
+-- the tokens read, and a match that begins with them
 abbrev pub Begins : List Terminal → Pattern → List Terminal → List Terminal → Type 0
 Begins more r ts us =
     (x : List Terminal) × (ts ≡ x ++ us) × ((ss : List Pattern) (u : List Terminal) → Accepts ss u → (v : List Terminal) × Accepts (r ∷ ss) (x ++ (more ++ v)))
@@ -114,7 +114,7 @@ viable_fails a b ts (Done us) failed p = absurd failed
 viable_fails a b ts (Stop us) failed p = begins_front [] a b ts us p
 viable_fails a b ts (Deep us) failed p = begins_front (LeftBrace ∷ []) a b ts us p
 
--- many is one, and many again
+-- a repetition is one match, and the repetition again
 folds : (a : Pattern) (ts : List Terminal) (o : Outcome) → Viable (both a (many a)) ts o → Viable (many a) ts o
 folds a ts (Done us) (x, e, g) = (x, e, λ ss u d. again (of_both (g ss u d)))
 folds a ts (Stop us) (x, e, g) = (x, e, λ ss u d. let q = g ss u d in (q.0, again (of_both q.1)))

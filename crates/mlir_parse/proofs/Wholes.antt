@@ -1,4 +1,4 @@
--- What a run over the whole text says.
+-- A run over all tokens, and the syntax error where it stops.
 use Rattle.std.proofs.Common.{suc, zero, ◌≡◌, ℕ, ◌+◌, ◌<◌, ◌≤◌, refl, List, [], ◌∷◌, ◌++◌, length, drop, take, ap, ◌∙◌, sym, subst, arith, length-drop, length-append, Some, append_assoc, slice_get}
 use Rattle.std.proofs.lemmas.List.{take_at, drop_all}
 use Rattle.mlir_ir.specs.Grammar.{line, body}
@@ -12,7 +12,7 @@ use Rattle.mlir_ir.specs.declared.terminal.Terminal.TheVariants.{LeftBrace}
 use Rattle.mlir_ir.specs.declared.terminal.Terminal.{Terminal}
 use Rattle.mlir_ir.specs.declared.syntax.Form.TheVariants.{Whole}
 
--- what was read is the front up to the place
+-- the tokens read are the prefix before the index
 front_is : (ts x : List Terminal) (k : ℕ) → k ≤ length ts → ts ≡ x ++ drop k ts → x ≡ take k ts
 front_is ts x k h e =
     let l : length x ≡ k = omega (arith, ap length e, length-append x (drop k ts), length-drop k ts) in
@@ -55,11 +55,11 @@ stuck ts x k h e v f low = record {
         (ap next (sym d))
         (subst P (ap (λ z. z ++ begun.0) (front_more ts x k c us h e d) ∙ append_assoc x (c ∷ []) begun.0) begun.1)
 
--- the shallow front of a run is that up to the place
+-- the tokens read, which have at most twelve open regions, are the prefix before the index
 shallow_front : (ts us : List Terminal) (k : ℕ) → k ≤ length ts → us ≡ drop k ts → (x : List Terminal) × (ts ≡ x ++ us) × IsShallow x → IsShallow (take k ts)
 shallow_front ts us k h is (x, e, low) = subst IsShallow (front_is ts x k h (e ∙ ap (λ z. x ++ z) is)) low
 
--- a run that stopped
+-- a run that stopped at an unexpected token
 pub stopped : (ts : List Terminal) (k : ℕ) → k ≤ length ts → Runs 0 (body Whole) ts (Stop (drop k ts)) → IsSyntaxFault ts k
 stopped ts k h r =
     let v = viable (run_line {f = Whole} r) in
@@ -69,7 +69,7 @@ stopped ts k h r =
     stuck ts o.0 k h o.1 (subst P same_front (v.2 [] [] ends)) (λ w n a. o.2 [] w fits_whole n a)
     (shallow_front ts (drop k ts) k h refl (top ts (Stop (drop k ts)) r))
 
--- a run that ended before the end
+-- a run that ended before the last token
 pub not_all : (ts : List Terminal) (k : ℕ) → k < length ts → Runs 0 (body Whole) ts (Done (drop k ts)) → IsSyntaxFault ts k
 not_all ts k h r =
     let v = viable (run_line {f = Whole} r) in
@@ -92,7 +92,7 @@ get_drop [] (suc k) c us e = cc
 get_drop (b ∷ ts) zero c us e = cc
 get_drop (b ∷ ts) (suc k) c us e = get_drop ts k c us e
 
--- a run that stopped at a brace
+-- a run that stopped at a brace that opens too deep a region
 pub too_deep : (ts : List Terminal) (k : ℕ) → k ≤ length ts → Runs 0 (body Whole) ts (Deep (drop k ts)) → IsTooDeep ts k
 too_deep ts k h r =
     let v = viable (run_line {f = Whole} r) in

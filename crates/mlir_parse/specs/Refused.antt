@@ -9,7 +9,7 @@ use Rattle.mlir_ir.specs.declared.terminal.Terminal.{Terminal}
 use Rattle.mlir_parse.specs.declared.parser.ParseFault.{ParseFault}
 use Rattle.mlir_parse.specs.declared.parser.ParseFault.TheVariants.{NoMemory, Lex, Syntax, NotHere, TooDeep}
 
--- the text's tokens have the fault, and its token begins at the byte; the text's length is the end's
+-- the tokens of the text have the syntax error at a token whose byte offset is this one; the end has the text's length
 pub record IsFaultAt (IsFault : List Terminal → ℕ → Type 0) (text : List ℕ) (byte : ℕ) : Type 0 where
   pub tokens : List Token
   pub token : ℕ
@@ -17,7 +17,7 @@ pub record IsFaultAt (IsFault : List Terminal → ℕ → Type 0) (text : List �
   pub fault : IsFault (map terminal_of tokens) token
   pub here : byte ≡ place_of tokens (length text) token
 
--- memory was refused, or the fault is that of the text
+-- allocation failed, or the fault is that of the text
 abbrev pub IsRefused : List ℕ → ParseFault → Type 0
 IsRefused text NoMemory = Unit {0}
 IsRefused text (Lex byte) = IsLexFault text byte

@@ -1,7 +1,8 @@
--- The grammar's right sides as the code has them.
+-- The productions as the code represents them.
 use Rattle.std.specs.Prelude.{ℕ, ◌≡◌, ◌<◌, ◌≤◌, ◌++◌, List, length, drop, slice_index_or, Result, Ok, Err}
 use Rattle.mlir_ir.specs.Grammar.{Pattern, nothing, one, line, both, either, many, region, body}
-use Rattle.mlir_parse.specs.Tables.{form_at, first_set}
+use Rattle.mlir_ir.specs.GrammarNumbers.{form_at}
+use Rattle.mlir_parse.specs.Tables.{first_set}
 use Rattle.mlir_parse.specs.Runs.{Runs, Done, Stop, Deep}
 use Rattle.mlir_ir.specs.Texts.{IsSyntaxFault, IsTooDeep}
 use Rattle.mlir_ir.specs.Trees.{forest, Derives}
@@ -13,6 +14,7 @@ use Rattle.mlir_parse.specs.declared.fault.Fault.TheVariants.{NoMemory, Syntax, 
 use Rattle.mlir_parse.specs.declared.rule.Rule.{Rule}
 use Rattle.mlir_parse.specs.declared.rule.Rule.TheVariants.{Nothing, One, Line, Both', Either', Many', Region'}
 
+-- the pattern that a rule of the code represents
 abbrev pub seen : Rule → Pattern
 seen Nothing = nothing
 seen (One c) = one c
@@ -22,7 +24,7 @@ seen (Either' m p a q b) = either (seen a) (seen b)
 seen (Many' m p a) = many (seen a)
 seen (Region' p a) = region (seen a)
 
--- the set at each choice is that of what it chooses
+-- the set at each choice is the first set of its first alternative
 abbrev pub IsMarked : Rule → Type 0
 IsMarked Nothing = Unit {0}
 IsMarked (One c) = Unit {0}
@@ -32,28 +34,28 @@ IsMarked (Either' m p a q b) = (m ≡ first_set (seen a)) × IsMarked a × IsMar
 IsMarked (Many' m p a) = (m ≡ first_set (seen a)) × IsMarked a
 IsMarked (Region' p a) = IsMarked a
 
--- the rule is that of the pattern, with its sets
+-- the rule represents the pattern, and its sets are right
 abbrev pub Stands : Rule → Pattern → Type 0
 Stands rule r = (seen rule ≡ r) × IsMarked rule
 
--- the right sides of all lines, in the order of their numbers
+-- the right-hand sides of all productions, in the order of their forms
 abbrev pub AreLines : List Rule → Type 0
 AreLines rules = (f : Form) → (form_at f < length rules) × ((d : Rule) → Stands (slice_index_or rules (form_at f) d) (body f))
 
--- the run from a place on ends so
+-- inside `n` regions, the run of the pattern from the token index `at` on has this result
 abbrev pub Gives : ℕ → Pattern → List Terminal → ℕ → Result ℕ Fault → Type 0
 Gives n r ts at (Ok next) = (at ≤ next) × (next ≤ length ts) × Runs n r (drop at ts) (Done (drop next ts))
 Gives n r ts at (Err (Syntax k)) = (k ≤ length ts) × Runs n r (drop at ts) (Stop (drop k ts))
 Gives n r ts at (Err (TooDeep k)) = (k ≤ length ts) × Runs n r (drop at ts) (Deep (drop k ts))
 Gives n r ts at (Err NoMemory) = Unit {0}
 
--- the fault that the reader finds is that of the tokens
+-- the reader's fault is the syntax error of the tokens, or allocation failed
 abbrev pub IsFault : List Terminal → Fault → Type 0
 IsFault ts (Syntax k) = IsSyntaxFault ts k
 IsFault ts (TooDeep k) = IsTooDeep ts k
 IsFault ts NoMemory = Unit {0}
 
--- the branches that are new behind the old ones derive these tokens
+-- the branches appended to the old ones derive the tokens from index `at` up to index `next`
 pub record Grows (ts : List Terminal) (n : ℕ) (r : Pattern) (at : ℕ) (old new : List Branch) (next : ℕ) : Type 0 where
   pub row : List Branch
   pub grown : new ≡ old ++ row

@@ -1,86 +1,14 @@
--- What may begin and follow the lines of the grammar, as tables, with the test that one token decides at each place.
+-- The first and follow sets of the grammar, and the test that one token of lookahead decides at each choice.
 use Rattle.std.specs.Prelude.{ℕ, ◌+◌, ◌^◌, ◌==◌, max, Bool, true, false, ◌||◌, ◌&&◌, not, if◌then◌else◌, List, [], ◌∷◌}
 use Rattle.std.specs.Int.{bit_at}
 use Rattle.std.specs.Int.Bits.{bit_or}
 use Rattle.std.specs.List.{list_all}
+use Rattle.mlir_ir.specs.GrammarNumbers.{number, same, form_at}
 use Rattle.mlir_ir.specs.Grammar.{Pattern, nothing, one, line, both, either, many, region}
 use Rattle.mlir_ir.specs.declared.terminal.Terminal.{Terminal}
 use Rattle.mlir_ir.specs.declared.terminal.Terminal.TheVariants.{Module, Function, Private, TypeWord, Return, Constant, Truth, Binary, FlaggedBinary, Cast, FlaggedCast, Compare, Predicate, Select, Call, If, Else, For, To, Step, IterArgs, While, Condition, Do, Yield, Overflow, Nsw, Nuw, OtherWord, Value, Symbol, Caret, Pick, Decimal, Hexadecimal, LeftParen, RightParen, LeftBrace, RightBrace, Less, Greater, Comma, Colon, Equals, Arrow, Minus}
 use Rattle.mlir_ir.specs.declared.syntax.Form.{Form}
 use Rattle.mlir_ir.specs.declared.syntax.Form.TheVariants.{Leaf, Whole, Func, Params, Types, Results, TypeName, Body, Ends, Uses, Use, Op, Pack, Kind, Inits, Region, Flags}
-
--- the number of a terminal
-abbrev pub number : Terminal → ℕ
-number Module = 0
-number Function = 1
-number Private = 2
-number TypeWord = 3
-number Return = 4
-number Constant = 5
-number Truth = 6
-number Binary = 7
-number FlaggedBinary = 8
-number Cast = 9
-number FlaggedCast = 10
-number Compare = 11
-number Predicate = 12
-number Select = 13
-number Call = 14
-number If = 15
-number Else = 16
-number For = 17
-number To = 18
-number Step = 19
-number IterArgs = 20
-number While = 21
-number Condition = 22
-number Do = 23
-number Yield = 24
-number Overflow = 25
-number Nsw = 26
-number Nuw = 27
-number OtherWord = 28
-number Value = 29
-number Symbol = 30
-number Caret = 31
-number Pick = 32
-number Decimal = 33
-number Hexadecimal = 34
-number LeftParen = 35
-number RightParen = 36
-number LeftBrace = 37
-number RightBrace = 38
-number Less = 39
-number Greater = 40
-number Comma = 41
-number Colon = 42
-number Equals = 43
-number Arrow = 44
-number Minus = 45
-
--- whether two terminals are the same
-abbrev pub same : Terminal → Terminal → Bool
-same a b = number a == number b
-
--- the place of a form among the lines
-abbrev pub form_at : Form → ℕ
-form_at Leaf = 0
-form_at Whole = 1
-form_at Func = 2
-form_at Params = 3
-form_at Types = 4
-form_at Results = 5
-form_at TypeName = 6
-form_at Body = 7
-form_at Ends = 8
-form_at Uses = 9
-form_at Use = 10
-form_at Op = 11
-form_at Pack = 12
-form_at Kind = 13
-form_at Inits = 14
-form_at Region = 15
-form_at Flags = 16
 
 -- all terminals
 abbrev pub terminals : List Terminal
@@ -90,19 +18,19 @@ terminals = Module ∷ Function ∷ Private ∷ TypeWord ∷ Return ∷ Constant
 abbrev pub forms : List Form
 forms = Leaf ∷ Whole ∷ Func ∷ Params ∷ Types ∷ Results ∷ TypeName ∷ Body ∷ Ends ∷ Uses ∷ Use ∷ Op ∷ Pack ∷ Kind ∷ Inits ∷ Region ∷ Flags ∷ []
 
--- whether a line may be nothing
+-- whether the nonterminal may have no tokens
 abbrev pub empty_line : Form → Bool
 empty_line Leaf = true
 empty_line Whole = true
 empty_line _ = false
 
--- whether the terminal is one of these
+-- whether the terminal is in the list
 abbrev pub among : List Terminal → Terminal → Bool
 among [] c = false
 among (d ∷ []) c = same d c
 among (d ∷ e ∷ ds) c = same d c || among (e ∷ ds) c
 
--- the terminals that a line may begin with
+-- the terminals that the nonterminal may begin with
 abbrev pub line_firsts : Form → List Terminal
 line_firsts Leaf = []
 line_firsts Whole = Module ∷ Function ∷ []
@@ -122,11 +50,11 @@ line_firsts Inits = Value ∷ []
 line_firsts Region = LeftBrace ∷ []
 line_firsts Flags = Overflow ∷ []
 
--- whether a line may begin with the terminal
+-- whether the nonterminal may begin with the terminal
 abbrev pub first_line : Form → Terminal → Bool
 first_line f c = among (line_firsts f) c
 
--- whether a text of it may be nothing
+-- whether a match of the pattern may have no tokens
 abbrev pub empty : Pattern → Bool
 empty nothing = true
 empty (one d) = false
@@ -136,7 +64,7 @@ empty (either a b) = empty a || empty b
 empty (many a) = true
 empty (region a) = false
 
--- what a text of it may begin with
+-- whether a match of the pattern may begin with the terminal
 abbrev pub first : Pattern → Terminal → Bool
 first nothing c = false
 first (one d) c = same d c
@@ -146,7 +74,7 @@ first (either a b) c = first a c || first b c
 first (many a) c = first a c
 first (region a) c = same LeftBrace c
 
--- a set of terminals as a number: that of a terminal, and that of some
+-- a set of terminals is a bit mask; `mark` has one terminal, `marks` those of a list
 abbrev pub mark : Terminal → ℕ
 mark c = 2 ^ number c
 
@@ -158,7 +86,7 @@ marks (c ∷ cs) = bit_or (mark c) (marks cs)
 abbrev pub has : ℕ → Terminal → Bool
 has set c = bit_at set (number c) == 1
 
--- the set of what a text of it may begin with
+-- the set of terminals that a match of the pattern may begin with
 abbrev pub first_set : Pattern → ℕ
 first_set nothing = 0
 first_set (one d) = mark d
@@ -168,7 +96,7 @@ first_set (either a b) = bit_or (first_set a) (first_set b)
 first_set (many a) = first_set a
 first_set (region a) = mark LeftBrace
 
--- what may follow a line
+-- whether the terminal may follow the nonterminal
 abbrev pub follow : Form → Terminal → Bool
 follow Leaf c = false
 follow Whole c = among [] c
@@ -188,7 +116,7 @@ follow Inits c = among (RightParen ∷ []) c
 follow Region c = among (Return ∷ Constant ∷ Binary ∷ FlaggedBinary ∷ Cast ∷ FlaggedCast ∷ Compare ∷ Select ∷ Call ∷ If ∷ Else ∷ For ∷ While ∷ Condition ∷ Yield ∷ Value ∷ RightBrace ∷ []) c
 follow Flags c = among (Colon ∷ []) c
 
--- one token decides at each place of the right side, where these terminals may follow it
+-- one token of lookahead decides at each choice of the pattern, where these terminals may follow it
 abbrev pub decides : Pattern → (Terminal → Bool) → Bool
 decides nothing after = true
 decides (one d) after = true
@@ -199,7 +127,7 @@ decides (either a b) after =
 decides (many a) after = not (empty a) && list_all (λ c. not (first a c && after c)) terminals && decides a (λ c. first a c || after c)
 decides (region a) after = decides a (same RightBrace)
 
--- how deep a line goes down, to its next region
+-- a bound on the depth of the productions that the nonterminal leads to without entering a region
 abbrev pub rank_line : Form → ℕ
 rank_line Leaf = 1
 rank_line Whole = 25
@@ -219,7 +147,7 @@ rank_line Inits = 8
 rank_line Region = 1
 rank_line Flags = 7
 
--- how region a right side goes down, to its next in_region
+-- the depth of the pattern without entering a region
 abbrev pub rank : Pattern → ℕ
 rank nothing = 1
 rank (one c) = 1
@@ -229,7 +157,7 @@ rank (either a b) = 1 + max (rank a) (rank b)
 rank (many a) = 2 + rank a
 rank (region a) = 1
 
--- the same with its regions
+-- the depth of the pattern with its regions
 abbrev pub weight : Pattern → ℕ
 weight nothing = 1
 weight (one c) = 1

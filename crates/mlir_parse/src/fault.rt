@@ -3,7 +3,7 @@ ghost use Rattle.mlir_parse.specs.declared.fault.Fault.TheVariants.{NoMemory};
 
 use std::alloc::{AllocError, AllocFailed};
 
-/// Where tokens stop to be the front of a text, by the number of the token.
+/// The syntax error of tokens, by the index of the token, or an allocation failure.
 #[derive(Clone, Copy, Debug)]
 pub enum Fault {
     NoMemory,

@@ -8,28 +8,16 @@ use crate::tree::tree_of;
 use mlir_ir::Terminal;
 use std::alloc::{AllocError, Global};
 
-/// The words that name operations, and the types.
-const NAMES: [Terminal; 17] = [
+/// The tokens that are tried to find whether an operation name or a type is accepted. Where any
+/// operation or terminator is accepted, `arith.constant` is, so it is tried for all of them.
+const PROBES: [Terminal; 4] = [
     Terminal::Module,
     Terminal::Function,
     Terminal::TypeWord,
-    Terminal::Return,
     Terminal::Constant,
-    Terminal::Binary,
-    Terminal::FlaggedBinary,
-    Terminal::Cast,
-    Terminal::FlaggedCast,
-    Terminal::Compare,
-    Terminal::Select,
-    Terminal::Call,
-    Terminal::If,
-    Terminal::For,
-    Terminal::While,
-    Terminal::Condition,
-    Terminal::Yield,
 ];
 
-/// Whether the terminal is a word that names no operation and no type.
+/// Whether the terminal is a bare word other than an operation name or a type.
 fn is_unnamed(terminal: Terminal) -> bool
     ensures { result ≡ texts.is_unnamed terminal }
 {
@@ -50,7 +38,8 @@ fn is_unnamed(terminal: Terminal) -> bool
     )
 }
 
-/// Whether the tokens, in which no region is too deep, begin some text.
+/// Whether the tokens, which are within the limit on open regions, are a prefix of a module's token
+/// sequence.
 #[tactic(auto, using(crate::proofs::Hopes::begins_of_tree, crate::proofs::Hopes::begins_by, crate::proofs::Hopes::begins_deep))]
 fn begins_text(alloc: Global, lines: &[Rule], tokens: &[Terminal]) -> Result<bool, AllocError>
     requires lines { AreLines lines.now }
@@ -66,7 +55,7 @@ fn begins_text(alloc: Global, lines: &[Rule], tokens: &[Terminal]) -> Result<boo
     }
 }
 
-/// The tokens with one more behind them.
+/// The tokens with one more appended.
 fn with_next(
     alloc: Global,
     tokens: &[Terminal],
@@ -79,16 +68,16 @@ fn with_next(
     Ok(more)
 }
 
-/// Whether behind these tokens the name of an operation or a type could stand.
-#[tactic(auto, using(crate::proofs::Hopes::shallow_more, crate::proofs::Hopes::name_flat, crate::proofs::Hopes::none_could))]
+/// Whether an operation name or a type is accepted after these tokens.
+#[tactic(auto, using(crate::proofs::Hopes::shallow_more, crate::proofs::Hopes::probe_flat))]
 fn name_could_stand(alloc: Global, lines: &[Rule], tokens: &[Terminal]) -> Result<bool, AllocError>
     requires lines { AreLines lines.now }
     requires few { length tokens.now + 1 < 2 ^ 32 }
     requires shallow { texts.IsShallow tokens.now }
     ensures { IfOk result (λ could. MatchBool could (texts.NameCouldStand tokens.now) (texts.NameCouldStand tokens.now → ⊥)) }
 {
-    'names: for name in NAMES {
-        let more = with_next(alloc, tokens, name)?;
+    'probes: for probe in PROBES {
+        let more = with_next(alloc, tokens, probe)?;
         if begins_text(alloc, lines, more.as_slice())? {
             return Ok(true);
         }
@@ -96,8 +85,8 @@ fn name_could_stand(alloc: Global, lines: &[Rule], tokens: &[Terminal]) -> Resul
     Ok(false)
 }
 
-/// Whether the faulty token is a word that names no operation and no type, where one of these
-/// could stand.
+/// Whether the unexpected token is a word other than an operation name or a type, where one of
+/// these is accepted.
 #[tactic(auto, using(crate::proofs::Hopes::other_named, crate::proofs::Hopes::other_end))]
 pub fn is_not_here(
     alloc: Global,

@@ -7,8 +7,8 @@ ghost use Rattle.mlir_parse.specs.Refused.{IsRefused};
 ghost use Rattle.mlir_parse.specs.declared.parser.ParseFault.{ParseFault};
 ghost use Rattle.mlir_parse.specs.declared.parser.ParseFault.TheVariants.{NoMemory};
 
-/// At most one tree stands for a list of tokens, and a text has at most one syntax. There is
-/// nothing to do: the contract is the law.
+/// A list of tokens has at most one tree, and a text has at most one syntax. The function does
+/// nothing: its contract is the law.
 pub fn one_syntax()
     ensures tokens { (tokens : List Token) (s t : Syntax) → StandsFor s tokens → StandsFor t tokens
         → (s.tokens ≡ t.tokens) × (put s.root none ≡ put t.root none) }
@@ -16,8 +16,8 @@ pub fn one_syntax()
         → (s.tokens ≡ t.tokens) × (s.length ≡ t.length) × (put s.root none ≡ put t.root none) }
 {}
 
-/// A text has a syntax or one fault, and never both. So want of memory aside, the text decides
-/// what `parse` gives.
+/// A text has at most one syntax error, and none if it has a syntax. So the text determines the
+/// result of `parse`, unless allocation fails.
 pub fn one_answer()
     ensures fault { (text : List ℕ) (e f : ParseFault) → IsRefused text e → IsRefused text f
         → (e ≡ NoMemory → ⊥) → (f ≡ NoMemory → ⊥) → e ≡ f }

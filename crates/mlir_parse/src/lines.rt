@@ -8,28 +8,28 @@ use crate::rule::{Rule, put_sets};
 use mlir_ir::{Form, Terminal};
 use std::alloc::{AllocError, Global};
 
-/// One of the two.
+/// The first rule or the second.
 fn either(alloc: Global, first: Rule, second: Rule) -> Result<Rule, AllocError>
     ensures { IfOk result (λ rule. seen rule ≡ grammar.either (seen first) (seen second)) }
 {
     Ok(Rule::Either(0, Box::new(alloc, first)?, Box::new(alloc, second)?))
 }
 
-/// Once or not at all.
+/// The rule, or no tokens.
 fn maybe(alloc: Global, rule: Rule) -> Result<Rule, AllocError>
     ensures { IfOk result (λ made. seen made ≡ grammar.maybe (seen rule)) }
 {
     either(alloc, rule, Nothing)
 }
 
-/// Any number of times.
+/// The rule any number of times.
 fn many(alloc: Global, rule: Rule) -> Result<Rule, AllocError>
     ensures { IfOk result (λ made. seen made ≡ grammar.many (seen rule)) }
 {
     Ok(Rule::Many(0, Box::new(alloc, rule)?))
 }
 
-/// A region: what stands inside its braces.
+/// A region with the rule inside its braces.
 fn region(alloc: Global, rule: Rule) -> Result<Rule, AllocError>
     ensures { IfOk result (λ made. seen made ≡ grammar.region (seen rule)) }
 {
@@ -443,7 +443,7 @@ fn pack_line(alloc: Global) -> Result<Rule, AllocError>
     )
 }
 
-/// One of the kinds above.
+/// `kind = constant_kind | binary_kind | .. | while_kind`
 fn kind_line(alloc: Global) -> Result<Rule, AllocError>
     ensures { IfOk result (λ rule. seen rule ≡ grammar.body Form.Kind) }
 {
@@ -544,7 +544,7 @@ fn flags_line(alloc: Global) -> Result<Rule, AllocError>
         .then(alloc, One(Terminal::Greater))
 }
 
-/// The right sides of all lines, in the order of the forms.
+/// The right-hand sides of all productions, in the order of the forms.
 #[tactic(auto, using(crate::proofs::Table::lines_are))]
 pub fn lines(alloc: Global) -> Result<Vec<Rule>, AllocError>
     ensures { IfOk result (λ rules. AreLines rules.items) }

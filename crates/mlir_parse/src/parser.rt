@@ -14,8 +14,8 @@ use mlir_lex::{LexError, tokens};
 use std::alloc::{AllocError, Global};
 use thiserror::Error;
 
-/// Why a text has no syntax: memory was refused, or a fault at a byte, where the text's length
-/// stands for its end.
+/// Why a text has no syntax: an allocation failure, or a fault at a byte offset, which is the
+/// text's length for its end.
 #[derive(Clone, Copy, Debug, PartialEq, Eq, Error)]
 pub enum ParseFault {
     #[error("no memory")]
@@ -23,10 +23,10 @@ pub enum ParseFault {
     /// The first byte where no token begins.
     #[error("no token begins at {0}")]
     Lex(u32),
-    /// The first token that can't stand where it stands.
+    /// The first unexpected token, or the end of an unfinished text.
     #[error("no text goes on with the token at {0}")]
     Syntax(u32),
-    /// A word that names no operation and no type, where one of these could stand.
+    /// A word other than an operation name or a type, where one of these is accepted.
     #[error("no operation or type is named by the word at {0}")]
     NotHere(u32),
     /// The brace that would open the thirteenth region.
@@ -55,7 +55,7 @@ fn terminals_of(alloc: Global, tokens: &[Token]) -> Result<Vec<Terminal>, AllocE
     Ok(made)
 }
 
-/// The byte where the token begins, and the text's length for the end.
+/// The byte offset of the token by its index; the text's length for the end.
 fn place(tokens: &[Token], length: u32, token: usize) -> u32
     ensures { result ≡ place_of tokens.now length token }
 {
@@ -66,7 +66,7 @@ fn place(tokens: &[Token], length: u32, token: usize) -> u32
 }
 
 /// The syntax of a text of fewer than 2^32 bytes: its tokens, with the tree that derives them by
-/// the grammar, at most twelve regions open. Else the first fault.
+/// the grammar, with at most twelve open regions. Else the first fault.
 #[tactic(auto, using(crate::proofs::Parsed::few_terminals, crate::proofs::Parsed::syntax_is, crate::proofs::Parsed::fault_at))]
 pub fn parse(alloc: Global, text: &str) -> Result<Syntax, ParseFault>
     requires { length text.now < 2 ^ 32 }

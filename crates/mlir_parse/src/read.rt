@@ -1,5 +1,6 @@
 ghost use Rattle.std.specs.Prelude.{◌≡◌, ◌≤◌, ◌<◌, ◌^◌, true, length, drop, IfOk};
 ghost use Rattle.mlir_ir.specs.Grammar.{one, line, both, maybe, many, region, body};
+ghost use Rattle.mlir_ir.specs.Limits.{region_limit};
 ghost use Rattle.mlir_parse.specs.Seen.{seen, AreLines, Gives, Grows, IsMarked};
 ghost use Rattle.mlir_parse.specs.Runs.{starts, is_next};
 ghost use Rattle.mlir_parse.specs.Tables.{weight, first_set};
@@ -8,17 +9,18 @@ ghost use Rattle.mlir_ir.specs.declared.syntax.Form.TheVariants.{TypeName, Use};
 
 use crate::fault::Fault;
 use crate::rule::{Rule, form_number, has, is_same};
+use mlir_ir::limits::REGION_LIMIT;
 use mlir_ir::{Branch, Form, Terminal};
 use std::alloc::Global;
 
-/// The lines of the grammar, and the tokens that are read by them.
+/// The productions of the grammar, and the tokens to read.
 #[derive(Clone, Copy)]
 pub struct Source<'a> {
     pub lines: &'a [Rule],
     pub tokens: &'a [Terminal],
 }
 
-/// Whether a text of the rule, which begins with one of the set, may begin at the place.
+/// Whether a match of the rule, whose first set is given, may begin at the token index.
 #[tactic(auto, using(crate::proofs::Places::starts_none))]
 fn may_begin(rule: &Rule, set: u64, tokens: &[Terminal], at: usize) -> bool
     requires { set ≡ first_set (seen rule.now) }
@@ -27,7 +29,7 @@ fn may_begin(rule: &Rule, set: u64, tokens: &[Terminal], at: usize) -> bool
     at < tokens.len() && has(set, tokens[at])
 }
 
-/// Whether the terminal stands at the place.
+/// Whether the token at the index is the terminal.
 #[tactic(auto, using(crate::proofs::Places::next_here, crate::proofs::Places::next_none))]
 fn next_is(terminal: Terminal, tokens: &[Terminal], at: usize) -> bool
     ensures { result ≡ is_next terminal (drop at tokens.now) }
@@ -35,7 +37,7 @@ fn next_is(terminal: Terminal, tokens: &[Terminal], at: usize) -> bool
     at < tokens.len() && is_same(terminal, tokens[at])
 }
 
-/// Reads one token, and adds its branch.
+/// Reads one token, and appends its branch.
 #[tactic(auto, using(crate::proofs::Gives::gives_one, crate::proofs::Gives::gives_other))]
 fn read_one(
     alloc: Global,
@@ -58,7 +60,7 @@ fn read_one(
     }
 }
 
-/// The right side of the line.
+/// The right-hand side of the form's production.
 pub fn line_rule(lines: &[Rule], form: Form) -> &Rule
     requires { AreLines lines.now }
     ensures is { seen result.now ≡ body form }
@@ -67,7 +69,7 @@ pub fn line_rule(lines: &[Rule], form: Form) -> &Rule
     &lines[form_number(form)]
 }
 
-/// Reads a type, and adds its branch.
+/// Reads a type, and appends its branch.
 fn read_type_name(
     alloc: Global,
     out: &mut Vec<Branch>,
@@ -90,7 +92,7 @@ fn read_type_name(
     }
 }
 
-/// Reads the pick behind a value, if there is one, and adds its branch.
+/// Reads the pick after a value, if there is one, and appends its branch.
 #[tactic(auto, using(crate::proofs::Gives::gives_left, crate::proofs::Places::starts_one))]
 fn read_pick(
     alloc: Global,
@@ -111,7 +113,7 @@ fn read_pick(
     }
 }
 
-/// Reads a value that is used, and adds its branch.
+/// Reads a use of a value, and appends its branch.
 fn read_use(
     alloc: Global,
     out: &mut Vec<Branch>,
@@ -137,7 +139,7 @@ fn read_use(
     }
 }
 
-/// Reads a text of the line, and adds its branch. The two commonest lines go without their rules.
+/// Reads the nonterminal, and appends its branch. The two commonest have functions of their own.
 #[cycle(reader)]
 fn read_line(
     alloc: Global,
@@ -150,7 +152,7 @@ fn read_line(
     requires lines { AreLines source.now.lines.now }
     requires within { at ≤ length source.now.tokens.now }
     requires few { length source.now.tokens.now < 2 ^ 32 }
-    requires shallow { depth ≤ 12 }
+    requires shallow { depth ≤ region_limit }
     ensures gives { Gives depth (line form) source.now.tokens.now at result }
     ensures grows { IfOk result (Grows source.now.tokens.now depth (line form) at out.old.items out.new.items) }
 {
@@ -161,7 +163,7 @@ fn read_line(
     }
 }
 
-/// Reads a text of the line by its rule, and adds its branch.
+/// Reads the nonterminal by its production, and appends its branch.
 #[cycle(reader)]
 #[tactic(auto, using(crate::proofs::Gives::gives_line))]
 fn read_by_rule(
@@ -175,7 +177,7 @@ fn read_by_rule(
     requires lines { AreLines source.now.lines.now }
     requires within { at ≤ length source.now.tokens.now }
     requires few { length source.now.tokens.now < 2 ^ 32 }
-    requires shallow { depth ≤ 12 }
+    requires shallow { depth ≤ region_limit }
     ensures gives { Gives depth (line form) source.now.tokens.now at result }
     ensures grows { IfOk result (Grows source.now.tokens.now depth (line form) at out.old.items out.new.items) }
 {
@@ -190,7 +192,7 @@ fn read_by_rule(
     }
 }
 
-/// Reads a text of the one rule and a text of the other behind it.
+/// Reads a match of the first rule, then one of the second, and appends their branches.
 #[cycle(reader)]
 #[tactic(auto, using(crate::proofs::Gives::gives_both, crate::proofs::Gives::gives_both_fails))]
 fn read_both(
@@ -206,7 +208,7 @@ fn read_both(
     requires small { weight (both (seen a.now) (seen b.now)) < 1000 }
     requires within { at ≤ length source.now.tokens.now }
     requires few { length source.now.tokens.now < 2 ^ 32 }
-    requires shallow { depth ≤ 12 }
+    requires shallow { depth ≤ region_limit }
     requires first { IsMarked a.now }
     requires second { IsMarked b.now }
     ensures gives { Gives depth (both (seen a.now) (seen b.now)) source.now.tokens.now at result }
@@ -218,7 +220,7 @@ fn read_both(
     }
 }
 
-/// Reads texts of the rule as long as one may begin, and adds their branches.
+/// Reads matches of the rule as long as one may begin, and appends their branches.
 #[cycle(reader)]
 #[tactic(auto, using(crate::proofs::Gives::gives_again, crate::proofs::Gives::gives_again_fails, crate::proofs::Gives::gives_enough, crate::proofs::Gives::goes_on))]
 fn read_many(
@@ -234,7 +236,7 @@ fn read_many(
     requires small { weight (seen rule.now) < 1000 }
     requires within { at ≤ length source.now.tokens.now }
     requires few { length source.now.tokens.now < 2 ^ 32 }
-    requires shallow { depth ≤ 12 }
+    requires shallow { depth ≤ region_limit }
     requires marked { IsMarked rule.now }
     requires set { set ≡ first_set (seen rule.now) }
     ensures gives { Gives depth (many (seen rule.now)) source.now.tokens.now at result }
@@ -250,7 +252,7 @@ fn read_many(
     Ok(here)
 }
 
-/// Reads a region with a text of the rule in its braces, and adds the branches.
+/// Reads a region with a match of the rule inside its braces, and appends the branches.
 #[cycle(reader)]
 #[tactic(auto, using(crate::proofs::Gives::gives_no_brace, crate::proofs::Gives::gives_too_deep, crate::proofs::Gives::gives_region_ends, crate::proofs::Gives::gives_region_fails))]
 fn read_region(
@@ -265,7 +267,7 @@ fn read_region(
     requires small { weight (region (seen rule.now)) < 1000 }
     requires within { at ≤ length source.now.tokens.now }
     requires few { length source.now.tokens.now < 2 ^ 32 }
-    requires shallow { depth ≤ 12 }
+    requires shallow { depth ≤ region_limit }
     requires marked { IsMarked rule.now }
     ensures gives { Gives depth (region (seen rule.now)) source.now.tokens.now at result }
     ensures grows { IfOk result (Grows source.now.tokens.now depth (region (seen rule.now)) at out.old.items out.new.items) }
@@ -273,7 +275,7 @@ fn read_region(
     if !next_is(Terminal::LeftBrace, source.tokens, at) {
         return Err(Fault::Syntax(at));
     }
-    if depth >= 12 {
+    if depth >= REGION_LIMIT as usize {
         return Err(Fault::TooDeep(at));
     }
     out.push(Branch::leaf(alloc, at as u32))?;
@@ -290,8 +292,8 @@ fn read_region(
     }
 }
 
-/// Reads a text of the rule from the place on, with that many regions open, and adds its branches.
-/// Each kind of rule has a function of its own, so that a call holds little.
+/// Reads a match of the rule from the token index on, inside `depth` regions, and appends its
+/// branches. Each kind of rule has a function of its own, to keep stack frames small.
 #[cycle(reader)]
 #[tactic(auto, using(crate::proofs::Gives::gives_nothing, crate::proofs::Gives::gives_left, crate::proofs::Gives::gives_right))]
 pub fn read(
@@ -306,7 +308,7 @@ pub fn read(
     requires small { weight (seen rule.now) < 1000 }
     requires within { at ≤ length source.now.tokens.now }
     requires few { length source.now.tokens.now < 2 ^ 32 }
-    requires shallow { depth ≤ 12 }
+    requires shallow { depth ≤ region_limit }
     requires marked { IsMarked rule.now }
     ensures gives { Gives depth (seen rule.now) source.now.tokens.now at result }
     ensures grows { IfOk result (Grows source.now.tokens.now depth (seen rule.now) at out.old.items out.new.items) }

@@ -1,33 +1,34 @@
 ghost use Rattle.std.specs.Prelude.{◌≡◌, ◌<◌, IfOk};
+ghost use Rattle.mlir_ir.specs.GrammarNumbers as numbers;
 ghost use Rattle.mlir_parse.specs.Tables as tables;
 ghost use Rattle.mlir_parse.specs.Seen.{seen, Stands};
 
 use mlir_ir::{Form, Terminal};
 use std::alloc::{AllocError, Global};
 
-/// The right side of a line of the grammar.
+/// The right-hand side of a production of the grammar.
 #[derive(Debug, Drop)]
 pub enum Rule {
     /// No token.
     Nothing,
     /// One token.
     One(Terminal),
-    /// What a line says.
+    /// A nonterminal.
     Line(Form),
-    /// One behind the other.
+    /// The first rule, then the second.
     Both(Box<Rule>, Box<Rule>),
-    /// One of the two, with the set of terminals that the first may begin with.
+    /// The first rule or the second, with the set of terminals that the first may begin with.
     Either(u64, Box<Rule>, Box<Rule>),
-    /// Any number of times, with the set of terminals that once may begin with.
+    /// The rule any number of times, with the set of terminals that it may begin with.
     Many(u64, Box<Rule>),
-    /// A region: what stands inside its braces.
+    /// A region with the rule inside its braces.
     Region(Box<Rule>),
 }
 
 impl Rule {
     ghost use Rattle.mlir_ir.specs.Grammar.{both};
 
-    /// This rule, and the next one behind it.
+    /// This rule, then the next one.
     pub fn then(self, alloc: Global, next: Rule) -> Result<Rule, AllocError>
         ensures { IfOk result (λ rule. seen rule ≡ both (seen self) (seen next)) }
     {
@@ -37,7 +38,7 @@ impl Rule {
 
 /// The number of the terminal.
 fn number_of(terminal: Terminal) -> u8
-    ensures number { result ≡ tables.number terminal }
+    ensures number { result ≡ numbers.number terminal }
     ensures small { result < 64 }
 {
     match terminal {
@@ -92,14 +93,14 @@ fn number_of(terminal: Terminal) -> u8
 
 /// Whether two terminals are the same.
 pub fn is_same(a: Terminal, b: Terminal) -> bool
-    ensures { result ≡ tables.same a b }
+    ensures { result ≡ numbers.same a b }
 {
     number_of(a) == number_of(b)
 }
 
-/// The place of the form among the lines.
+/// The index of the form's production.
 pub fn form_number(form: Form) -> usize
-    ensures { result ≡ tables.form_at form }
+    ensures { result ≡ numbers.form_at form }
 {
     match form {
         Form::Leaf => 0,
@@ -122,7 +123,7 @@ pub fn form_number(form: Form) -> usize
     }
 }
 
-/// The set of the one terminal: a set has a bit for each terminal, at its number.
+/// The set of one terminal. A set is a bit mask with the bit of each terminal at its number.
 fn mark(terminal: Terminal) -> u64
     ensures { result ≡ tables.mark terminal }
 {
@@ -146,7 +147,7 @@ pub fn has(set: u64, terminal: Terminal) -> bool
     (set >> u32::from(number_of(terminal))) % 2 == 1
 }
 
-/// The terminals that an operation may begin with: what its kind begins with, or the name of a result.
+/// The terminals that an operation may begin with: its name, or the name of a result.
 const OPERATIONS: [Terminal; 12] = [
     Terminal::Constant,
     Terminal::Binary,
@@ -162,7 +163,7 @@ const OPERATIONS: [Terminal; 12] = [
     Terminal::Value,
 ];
 
-/// The terminals that an operation without its results may begin with.
+/// The names of operations that aren't terminators.
 const KINDS: [Terminal; 11] = [
     Terminal::Constant,
     Terminal::Binary,
@@ -177,7 +178,7 @@ const KINDS: [Terminal; 11] = [
     Terminal::While,
 ];
 
-/// The set of the terminals that a line may begin with.
+/// The set of the terminals that the nonterminal may begin with.
 fn line_set(form: Form) -> u64
     ensures { result ≡ tables.marks (tables.line_firsts form) }
 {
@@ -197,7 +198,7 @@ fn line_set(form: Form) -> u64
     }
 }
 
-/// Whether the line may be nothing.
+/// Whether the nonterminal may have no tokens.
 fn line_is_empty(form: Form) -> bool
     ensures { result ≡ tables.empty_line form }
 {
@@ -208,7 +209,7 @@ fn line_is_empty(form: Form) -> bool
     }
 }
 
-/// Whether the rule has a text without tokens.
+/// Whether a match of the rule may have no tokens.
 fn can_be_empty(rule: &Rule) -> bool
     ensures { result ≡ tables.empty (seen rule.now) }
 {
@@ -223,7 +224,7 @@ fn can_be_empty(rule: &Rule) -> bool
     }
 }
 
-/// The set of the terminals that a text of the rule may begin with.
+/// The set of the terminals that a match of the rule may begin with.
 fn first_set(rule: &Rule) -> u64
     ensures { result ≡ tables.first_set (seen rule.now) }
 {
@@ -244,7 +245,7 @@ fn first_set(rule: &Rule) -> u64
     }
 }
 
-/// Puts the sets into the rule, from what is inside on.
+/// Fills in the sets of the rule, innermost first.
 pub fn put_sets(rule: &mut Rule)
     ensures { Stands rule.new (seen rule.old) }
 {

@@ -4,7 +4,7 @@ ghost use Rattle.mlir_ir.specs.Terminals as terminals;
 
 use mlir_ir::{Terminal, Token, TokenKind};
 
-/// Whether the digit is one of these.
+/// Whether the byte is in the range.
 fn is_between(first: u8, digit: u8, last: u8) -> bool
     ensures { result ≡ (nat_le first digit && nat_le digit last) }
 {
@@ -42,14 +42,14 @@ fn is_integer(word: &[u8]) -> bool
     }
 }
 
-/// Whether the word is an operation on two values that takes flags.
+/// Whether the word is a binary operation that takes overflow flags.
 fn is_flagged_binary(word: &str) -> bool
     ensures { result ≡ terminals.is_flagged_binary word.now }
 {
     word == "arith.addi" || word == "arith.subi" || word == "arith.muli" || word == "arith.shli"
 }
 
-/// Whether the word is an operation on two values that takes no flags.
+/// Whether the word is a binary operation that takes no overflow flags.
 fn is_binary(word: &str) -> bool
     ensures { result ≡ terminals.is_binary word.now }
 {
@@ -68,7 +68,7 @@ fn is_binary(word: &str) -> bool
         || word == "arith.remsi"
 }
 
-/// Whether the word is a cast that takes no flags.
+/// Whether the word is a cast that takes no overflow flags.
 fn is_cast(word: &str) -> bool
     ensures { result ≡ terminals.is_cast word.now }
 {
@@ -94,7 +94,7 @@ fn is_predicate(word: &str) -> bool
         || word == "uge"
 }
 
-/// Whether the word ends a body.
+/// Whether the word is `return` or `func.return`.
 fn is_return(word: &str) -> bool
     ensures { result ≡ terminals.is_return word.now }
 {
@@ -176,7 +176,7 @@ fn func_terminal(word: &str) -> Terminal
     }
 }
 
-/// The terminal of a word that stands inside operations.
+/// The terminal of a word inside an operation.
 fn inner_terminal(word: &str) -> Terminal
     ensures { result ≡ terminals.inner_terminal word.now }
 {
@@ -197,7 +197,7 @@ fn inner_terminal(word: &str) -> Terminal
     }
 }
 
-/// The terminal of a word of flags, or of a predicate.
+/// The terminal of a word of overflow flags, or of a predicate.
 fn flag_terminal(word: &str) -> Terminal
     ensures { result ≡ terminals.flag_terminal word.now }
 {
@@ -280,7 +280,7 @@ fn number_terminal(number: &str) -> Terminal
     }
 }
 
-/// What the token is to the grammar.
+/// The terminal of the token.
 pub fn terminal_of(token: &Token) -> Terminal
     ensures { result ≡ terminals.terminal_of token.now }
 {

@@ -8,7 +8,7 @@ use crate::rule::Rule;
 use mlir_ir::{Branch, Form, Terminal};
 use std::alloc::Global;
 
-/// The tree of the tokens, or the first place where they stop to be the front of a text.
+/// The tree of the tokens, or their syntax error.
 #[tactic(auto, using(crate::proofs::Roots::fault_is, crate::proofs::Roots::early_end, crate::proofs::Roots::whole_tree))]
 pub fn tree_of(alloc: Global, lines: &[Rule], tokens: &[Terminal]) -> Result<Branch, Fault>
     requires lines { AreLines lines.now }

@@ -25,7 +25,8 @@ use Rattle.mlir_ir.specs.declared.rules.Nest.{Nest}
 use Rattle.mlir_ir.specs.declared.rules.Position.{Position}
 use Rattle.mlir_ir.specs.declared.rules.Rules.{Rules}
 use Rattle.mlir_ir.specs.Check.{unless, breaks_at, args_breaks, op_breaks, ops_breaks, items_breaks, kind_breaks, at_item, in_item, past, past_args, past_ops, past_items, func_begin, is_declaration, outer_values, body_breaks, results_of, items_results, IsWellFormed}
-use Rattle.mlir_ir.specs.Labels.{label_at, kind_labels}
+use Rattle.arith_word.specs.Labels.{label_at}
+use Rattle.mlir_ir.specs.Labels.{kind_labels}
 use Rattle.mlir_ir.specs.Names.{is_name}
 use Rattle.mlir_ir.specs.Rules.{has_name, is_free, are_free, packs_hold, is_in_scope, are_in_scope, has_type, have_types, same_type, same_types, operands, is_kind_typed, is_kind_counted, op_rules, arg_rules, head_rules, return_rules}
 use Rattle.mlir_ir.specs.Values.{Value, value_at, type_at, arg_values, result_values, kind_values, op_values, ops_values, items_values}

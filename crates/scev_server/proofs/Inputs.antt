@@ -9,7 +9,7 @@ use Rattle.mlir_ir.specs.declared.types.Body.{Body}
 use Rattle.mlir_ir.specs.declared.types.Func.{Func}
 use Rattle.mlir_ir.specs.declared.types.IrType.{IrType}
 use Rattle.mlir_ir.specs.Canonical.{Naming, line, joined, arg_text, arrow_text, types_text, use_text, used_type, uses_text, used_types, ends_text, items_text, naming_of, body_text, func_text, module_text, bracketed, head_text}
-use Rattle.mlir_ir.specs.Labels.{label_at}
+use Rattle.arith_word.specs.Labels.{label_at}
 use Rattle.mlir_ir.specs.Names.{is_name}
 use Rattle.mlir_ir.specs.Values.{Value, type_at, arg_values, body_values, items_values, func_values}
 use Rattle.mlir_ir.specs.Words.{type_text}

@@ -7,7 +7,8 @@ use Rattle.mlir_ir.specs.declared.types.Kind.{Kind, Const, Bin}
 use Rattle.mlir_ir.specs.declared.types.Op.{Op}
 use Rattle.mlir_ir.specs.declared.types.Pack.{Pack}
 use Rattle.mlir_ir.specs.Canonical.{Naming, line, simple_text, op_text, packs_text, ops_text, items_text}
-use Rattle.mlir_ir.specs.Labels.{label_at, kind_labels}
+use Rattle.arith_word.specs.Labels.{label_at}
+use Rattle.mlir_ir.specs.Labels.{kind_labels}
 use Rattle.mlir_ir.specs.Names.{is_name}
 use Rattle.mlir_ir.specs.Values.{Value, kind_values, result_values, op_values, ops_values, items_values}
 use Rattle.scev_server.specs.Guess.{Defs, word, words_of, begins, defined, item_of, item_size, item_label, items_of, shape_of, result_of, kind_of, name_of}

@@ -1,5 +1,5 @@
 -- Names of a plain function's values: each stands once, so it names its first definition.
-use Rattle.std.proofs.Common.{◌≡◌, ◌≢◌, ℕ, zero, suc, ◌+◌, ◌-◌, ◌*◌, ◌^◌, ◌<◌, ◌≤◌, ◌==◌, ◌&&◌, Bool, true, false, List, [], ◌∷◌, ◌++◌, length, All, Option, Some, None, refl, sym, ap, ◌∙◌, arith, find, filter, slice_get, subst, add-zero, zero-add, eq-eqb, cond, nat_le, IfSome, codes}
+use Rattle.std.proofs.Common.{◌≡◌, ◌≢◌, ℕ, ◌+◌, ◌*◌, ◌^◌, ◌==◌, ◌&&◌, Bool, true, false, List, [], ◌∷◌, ◌++◌, All, Option, Some, None, refl, sym, ap, ◌∙◌, arith, find, slice_get, subst, add-zero, zero-add, eq-eqb, cond, nat_le, codes}
 use Rattle.std.specs.Option.{option_map, option_map_or, option_and_then, option_or}
 use Rattle.std.proofs.lemmas.List.{append-nil}
 use Rattle.std.specs.List.{position_from, count_by}
@@ -9,7 +9,7 @@ use Rattle.std.proofs.lemmas.Slice.Eq.{bytes_eq-Decides}
 use Rattle.std.proofs.lemmas.Bool.{false_from_ne_true, le-leb}
 use Rattle.std.proofs.lemmas.List.Elements.{All-head, All-tail, All-nil, All-cons, All-append}
 use Rattle.mlir_ir.specs.Values.{Value, arg_values, items_values, func_values, value_at}
-use Rattle.mlir_ir.specs.Labels.{label_at}
+use Rattle.arith_word.specs.Labels.{label_at}
 use Rattle.mlir_ir.specs.declared.types.Arg.{Arg}
 use Rattle.mlir_ir.specs.declared.types.Func.{Func}
 use Rattle.mlir_ir.specs.declared.types.Item.{Item}
@@ -164,10 +164,18 @@ symbol_plain f x plain =
     ])
     refl
 
+arg_labels : (func : ℕ) (o : Option ℕ) → func ≡ 0 → option_map (λ i. label_at func 0 i) o ≡ o
+arg_labels func None h = refl
+arg_labels func (Some i) h = ap Some (omega (arith, h))
+
+item_labels : (func : ℕ) (o : Option ℕ) → func ≡ 0 → option_map (λ i. label_at func i 0) o ≡ option_map (λ i. i * 2 ^ 14) o
+item_labels func None h = refl
+item_labels func (Some i) h = ap Some (omega (arith, h))
+
 -- the label that a plain name stands for, by the two searches
 pub label_named_is : (f : Func) (named : ValueName) (at k : Option ℕ) → IsPlainFunc f → IsPlain named →
     at ≡ position_from (λ arg. bytes_eq arg.name named.name) 0 f.args →
     k ≡ position_from (λ item. bytes_eq (item_name item) named.name) 1 (items_of f) →
-    option_or at (option_map (λ i. i * 2 ^ 14) k) ≡ label_named (func_values f) named
+    option_or (option_map (λ i. label_at f.index 0 i) at) (option_map (λ i. label_at f.index i 0) k) ≡ label_named (func_values f) named
 label_named_is f named at k plain name e e' =
-    rw (e, e', name.nth, name.result) (sym (label_named_plain f named.name plain))
+    rw (arg_labels f.index at plain.first, item_labels f.index k plain.first, e, e', name.nth, name.result) (sym (label_named_plain f named.name plain))

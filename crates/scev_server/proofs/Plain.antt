@@ -1,18 +1,16 @@
 -- The values of functions of which each item is one small operation.
-use Rattle.std.proofs.Common.{◌≡◌, ◌≢◌, ℕ, zero, suc, ◌+◌, ◌*◌, ◌^◌, ◌<◌, ◌≤◌, ◌==◌, Bool, true, false, List, [], ◌∷◌, ◌++◌, length, All, Option, Some, None, refl, sym, ap, ◌∙◌, arith, find, slice_get, inl, inr, subst, add-zero, eq-eqb, ne_eqb, zero-add, ◌-◌, ◌%◌, ◌/◌, IfSome}
+use Rattle.std.proofs.Common.{◌≡◌, ◌≢◌, ℕ, zero, suc, ◌+◌, ◌*◌, ◌^◌, ◌≤◌, List, [], ◌∷◌, ◌++◌, length, All, Option, Some, None, refl, sym, ap, ◌∙◌, arith, slice_get, inl, inr, add-zero, eq-eqb, ne_eqb, zero-add, ◌-◌, ◌/◌, IfSome}
 use Rattle.std.specs.Option.{option_map, option_map_or, option_or}
-use Rattle.std.proofs.lemmas.List.{append-nil}
 use Rattle.std.proofs.lemmas.List.Elements.{All-head, All-tail, All-nil}
 use Rattle.mlir_ir.specs.declared.types.Arg.{Arg}
 use Rattle.mlir_ir.specs.declared.types.Body.{Body}
 use Rattle.mlir_ir.specs.declared.types.Func.{Func}
-use Rattle.mlir_ir.specs.declared.types.IrType.{IrType}
 use Rattle.mlir_ir.specs.declared.types.Item.{Item}
 use Rattle.mlir_ir.specs.declared.types.Kind.{Kind, Const, Bin, Cast, Cmp, Select, Call, If', For, While}
-use Rattle.mlir_ir.specs.declared.types.Op.{Op}
-use Rattle.mlir_ir.specs.declared.types.Pack.{Pack}
-use Rattle.mlir_ir.specs.Labels.{label_at, kind_labels}
-use Rattle.mlir_ir.specs.Values.{Value, arg_values, kind_values, result_values, op_values, ops_values, items_values, body_values, func_values, value_at}
+use Rattle.arith_word.specs.Labels.{label_at, func_of, item_of, index_of}
+use Rattle.std.proofs.lemmas.Bool.{cases_lt}
+use Rattle.mlir_ir.specs.Labels.{kind_labels}
+use Rattle.mlir_ir.specs.Values.{Value, arg_values, kind_values, ops_values, items_values, body_values, func_values, value_at}
 use Rattle.scev_server.specs.Input.{IsSmallKind}
 use Rattle.scev_server.specs.Plain.{IsPlainItem, IsPlainFunc, item_name, items_of}
 
@@ -86,6 +84,22 @@ items_miss (item ∷ items) k x h between =
     ∙ (found_later (plain_value (label_at 0 k 0) item plain) (items_values 0 (k + 1) items) x (omega arith)
     ∙ items_miss items (k + 1) x (All-tail IsPlainItem item items h) (λ i le. between i (omega arith)))
 
+-- none has a label past them
+pub items_far : (items : List Item) (k x : ℕ) → All IsPlainItem items → (k + length items) * 2 ^ 14 ≤ x → name_at (items_values 0 k items) x ≡ None
+items_far [] k x h far = refl
+items_far (item ∷ items) k x h far =
+    let plain = All-head IsPlainItem item items h in
+    ap (λ vs. name_at vs x) (items_first k item items plain)
+    ∙ (found_later (plain_value (label_at 0 k 0) item plain) (items_values 0 (k + 1) items) x (omega arith)
+    ∙ items_far items (k + 1) x (All-tail IsPlainItem item items h) (omega arith))
+
+far_label : (x : ℕ) → func_of x ≢ 0 → 2 ^ 24 ≤ x
+far_label x other =
+    elim (cases_lt x (2 ^ 24)) [
+      | inl less ↦ absurd (other (omega (arith, less)))
+      | inr far ↦ far
+    ]
+
 body_values_items : (index : ℕ) (body : Option Body) → body_values index body ≡ items_values index 1 (option_map_or (λ b. b.items) body [])
 body_values_items index None = refl
 body_values_items index (Some body) = refl
@@ -107,10 +121,10 @@ module _ (f : Func) (plain : IsPlainFunc f) where
   in_both [] ys x = refl
   in_both (v ∷ xs) ys x = grind (arith, in_both xs ys x)
 
-  pub name_of_arg : (x : ℕ) → x / 2 ^ 14 ≡ 0 → option_map (λ arg. arg.name) (slice_get f.args (x % 2 ^ 14)) ≡ name_at (func_values f) x
-  name_of_arg x e =
-      let here : x % 2 ^ 14 ≡ 0 + x = omega arith in
-      let none = items_miss (items_of f) 1 x (plain_items f.body plain.items) (λ i le h. omega arith) in
+  pub name_of_arg : (x : ℕ) → func_of x ≡ f.index → item_of x ≡ 0 → option_map (λ arg. arg.name) (slice_get f.args (index_of x)) ≡ name_at (func_values f) x
+  name_of_arg x own e =
+      let here : index_of x ≡ 0 + x = omega (arith, plain.first, own, e) in
+      let none = items_miss (items_of f) 1 x (plain_items f.body plain.items) (λ i le h. omega (arith, plain.first, own, e)) in
       ap (λ n. option_map (λ arg. arg.name) (slice_get f.args n)) (here ∙ zero-add x)
       ∙ sym (ap (λ vs. name_at vs x) values_are ∙ in_both (arg_values 0 f.args) (items_values 0 1 (items_of f)) x ∙ rw none (option_or_none _) ∙ ap (name_at (arg_values 0 f.args)) (sym (zero-add x)) ∙ args_hit f.args 0 x)
     where
@@ -124,9 +138,16 @@ module _ (f : Func) (plain : IsPlainFunc f) where
       ∙ (in_both (arg_values 0 f.args) (items_values 0 1 (items_of f)) x
       ∙ ap (λ o. option_or o (name_at (items_values 0 1 (items_of f)) x)) (args_miss f.args 0 x (omega (arith, plain.args))))
 
-  pub name_of_none : (x : ℕ) → 1 ≤ x / 2 ^ 14 → x % 2 ^ 14 ≢ 0 → None ≡ name_at (func_values f) x
-  name_of_none x some between = sym (items_only x some ∙ items_miss (items_of f) 1 x (plain_items f.body plain.items) (λ i le h. between (omega arith)))
+  pub name_of_none : (x : ℕ) → 1 ≤ item_of x → index_of x ≢ 0 → None ≡ name_at (func_values f) x
+  name_of_none x some between = sym (items_only x (omega (arith, some)) ∙ items_miss (items_of f) 1 x (plain_items f.body plain.items) (λ i le h. between (omega arith)))
 
-  pub name_of_result : (x : ℕ) → 1 ≤ x / 2 ^ 14 → x % 2 ^ 14 ≡ 0 → option_map item_name (slice_get (items_of f) (x / 2 ^ 14 - 1)) ≡ name_at (func_values f) x
-  name_of_result x some whole =
-      sym (items_only x some ∙ (ap (name_at (items_values 0 1 (items_of f))) (omega arith) ∙ items_hit (items_of f) 1 (x / 2 ^ 14 - 1) (plain_items f.body plain.items)))
+  pub name_of_result : (x : ℕ) → func_of x ≡ f.index → 1 ≤ item_of x → index_of x ≡ 0 → option_map item_name (slice_get (items_of f) (item_of x - 1)) ≡ name_at (func_values f) x
+  name_of_result x own some whole =
+      sym
+      (items_only x (omega (arith, some))
+      ∙ (ap (name_at (items_values 0 1 (items_of f))) (omega (arith, plain.first, own, some, whole)) ∙ items_hit (items_of f) 1 (item_of x - 1) (plain_items f.body plain.items)))
+
+  pub name_of_other : (x : ℕ) → func_of x ≢ f.index → None ≡ name_at (func_values f) x
+  name_of_other x other =
+      let far : 2 ^ 24 ≤ x = far_label x (λ same. other (same ∙ sym plain.first)) in
+      sym (items_only x (omega (arith, far)) ∙ items_far (items_of f) 1 x (plain_items f.body plain.items) (omega (arith, plain.few, far)))

@@ -1,6 +1,6 @@
 -- What is printed of a small and well-formed input is its text.
-use Rattle.std.proofs.Common.{◌≡◌, ℕ, zero, suc, ◌+◌, ◌-◌, ◌*◌, ◌/◌, ◌^◌, ◌<◌, ◌≤◌, ◌==◌, List, [], ◌∷◌, ◌++◌, true, false, arith, refl, sym, ap, ◌∙◌, subst, inl, inr, ◌⊎◌, length, map, codes, append_assoc, Option, Some, None, cond, slice_get, eq-eqb, ne_eqb}
-use Rattle.std.specs.Option.{option_map, option_map_or}
+use Rattle.std.proofs.Common.{◌≡◌, ℕ, suc, ◌+◌, ◌-◌, ◌<◌, ◌≤◌, ◌==◌, List, [], ◌∷◌, ◌++◌, false, arith, refl, sym, ap, ◌∙◌, subst, inl, inr, ◌⊎◌, length, map, codes, append_assoc, Some, cond}
+use Rattle.std.specs.Option.{option_map_or}
 use Rattle.std.proofs.lemmas.List.{append-nil}
 use Rattle.arith_word.specs.declared.label.Label.{Label}
 use Rattle.arith_word.specs.declared.op.BinOp.{BinOp}
@@ -11,9 +11,10 @@ use Rattle.mlir_ir.specs.declared.types.Func.{Func}
 use Rattle.mlir_ir.specs.declared.types.IrType.{IrType}
 use Rattle.mlir_ir.specs.declared.types.Item.{Item}
 use Rattle.mlir_ir.specs.declared.types.Kind.{Kind, Const, Bin}
-use Rattle.mlir_ir.specs.Canonical.{Naming, naming_of, arg_text, arrow_text, joined, types_text, simple_text, use_text, used_type, used_types, ends_text, value_text, items_text, ops_text, func_text, line}
-use Rattle.mlir_ir.specs.Labels.{label_at}
-use Rattle.mlir_ir.specs.Values.{Value, value_at, type_at, arg_values, items_values, ops_values}
+use Rattle.mlir_ir.specs.Canonical.{Naming, naming_of, arg_text, arrow_text, joined, types_text, simple_text, use_text, used_type, ends_text, value_text, items_text, ops_text, func_text, line}
+use Rattle.arith_word.specs.Labels.{label_at, item_of, index_of}
+use Rattle.mlir_ir.specs.Limits.{arg_limit, item_limit}
+use Rattle.mlir_ir.specs.Values.{Value, value_at, arg_values, items_values, ops_values}
 use Rattle.mlir_ir.specs.Words.{type_text, bin_text}
 use Rattle.scev_server.specs.declared.input.Input.{Input}
 use Rattle.scev_server.specs.Guess.{item_label}
@@ -23,7 +24,7 @@ use Rattle.scev_server.proofs.Texts.{IsSmallOp}
 use Rattle.scev_server.proofs.Named.{IsIn, last_cases, eqb_true, found_more, value_text_is}
 use Rattle.scev_server.proofs.Lines.{IsReadKind, named_line, no_flags}
 use Rattle.scev_server.proofs.Items.{IsReadItem, AreReadItems, values_are, value_of, item_text_is}
-use Rattle.scev_server.proofs.Inputs.{AreIn, AreOf, IsReadFunc, values_of, func_lines, lines_are}
+use Rattle.scev_server.proofs.Inputs.{AreIn, AreOf, IsReadFunc, values_of, lines_are}
 use Rattle.scev_server.proofs.Sessions.{IsReadInput}
 
 -- where a value stands, and what is printed of its use
@@ -79,21 +80,21 @@ pub record IsShown (f : Func) (l : ℕ) (v : Value) : Type 0 where
   pub spelled : label_use f l ≡ name_text v.name
   pub count : v.count ≡ 1
 
-arg_shown : (f : Func) (l : ℕ) (v : Value) → length f.args ≤ 16 → IsAt (arg_use f.args) (λ p. 0 + p) (length f.args) l v → IsShown f l v
+arg_shown : (f : Func) (l : ℕ) (v : Value) → length f.args ≤ arg_limit → IsAt (arg_use f.args) (λ p. 0 + p) (length f.args) l v → IsShown f l v
 arg_shown f l v few a =
-    let low : l / 2 ^ 14 ≡ 0 = omega (arith, a.at, a.below) in
-    let same : l ≡ a.place = a.at ∙ omega arith in
+    let low : item_of l ≡ 0 = omega (arith, few, a.at, a.below) in
+    let same : index_of l ≡ a.place = omega (arith, few, a.at, a.below) in
     record { spelled = rw low (ap (arg_use f.args) same ∙ a.shown); count = a.count }
 
-item_shown : (f : Func) (body : Body) (l : ℕ) (v : Value) → f.body ≡ Some body → IsAt (item_use body.items) (λ p. item_label (1 + p)) (length body.items) l v → IsShown f l v
-item_shown f body l v e a =
-    let high : l / 2 ^ 14 ≡ suc a.place = omega (arith, a.at) in
+item_shown : (f : Func) (body : Body) (l : ℕ) (v : Value) → f.body ≡ Some body → length body.items ≤ item_limit → IsAt (item_use body.items) (λ p. item_label (1 + p)) (length body.items) l v → IsShown f l v
+item_shown f body l v e few a =
+    let high : item_of l ≡ suc a.place = omega (arith, few, a.at, a.below) in
     let place : suc a.place - 1 ≡ a.place = omega arith in
     let other : (suc a.place == 0) ≡ false = grind arith in
     record {
       spelled =
-          ap (λ n. cond (n == 0) (arg_use f.args l) (body_use f.body (n - 1))) high
-          ∙ ap (λ b. cond b (arg_use f.args l) (body_use f.body (suc a.place - 1))) other
+          ap (λ n. cond (n == 0) (arg_use f.args (index_of l)) (body_use f.body (n - 1))) high
+          ∙ ap (λ b. cond b (arg_use f.args (index_of l)) (body_use f.body (suc a.place - 1))) other
           ∙ ap (λ b. body_use b (suc a.place - 1)) e
           ∙ ap (item_use body.items) place
           ∙ a.shown;
@@ -104,7 +105,7 @@ value_shown : (f : Func) → (r : IsReadFunc f) → (l : ℕ) (v : Value) → va
 value_shown f r l v h =
     elim (found_either (arg_values 0 f.args) (items_values 0 1 r.body.items) l v h) [
       | inl k ↦ arg_shown f l v r.few_args (arg_at 0 f.args l v k)
-      | inr k ↦ item_shown f r.body l v r.is_body (item_at (arg_values 0 f.args) 1 r.body.items l v r.items k)
+      | inr k ↦ item_shown f r.body l v r.is_body r.few_items (item_at (arg_values 0 f.args) 1 r.body.items l v r.items k)
     ]
 
 use_shown : (f : Func) → (r : IsReadFunc f) → (naming : Naming) → naming.values ≡ arg_values 0 f.args ++ items_values 0 1 r.body.items → (l : Label) → IsIn (arg_values 0 f.args ++ items_values 0 1 r.body.items) l → label_use f l.0 ≡ use_text naming l

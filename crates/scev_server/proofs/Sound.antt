@@ -22,7 +22,7 @@ use Rattle.mlir_ir.specs.declared.types.Kind.{Kind, Const, Bin, Cast, Cmp, Selec
 use Rattle.mlir_ir.specs.declared.types.Op.{Op}
 use Rattle.mlir_ir.specs.declared.types.Pack.{Pack}
 use Rattle.mlir_ir.specs.Check.{breaks, breaks_at, unless, ops_breaks, op_breaks, kind_breaks, items_breaks, args_breaks, body_breaks, in_item, at_item, past, past_ops, op_results, results_of, items_results, outer_values, func_begin, past_args, is_declaration, IsWellFormed}
-use Rattle.mlir_ir.specs.Labels.{label_at}
+use Rattle.arith_word.specs.Labels.{label_at}
 use Rattle.mlir_ir.specs.Rules.{op_rules, arg_rules, packs_hold, is_kind_counted, is_kind_typed, are_free, is_free, has_name, are_in_scope, operands, head_rules, is_short}
 use Rattle.mlir_ir.specs.Names.{is_name}
 use Rattle.mlir_ir.specs.Values.{Value, arg_values, items_values, func_values, result_values}

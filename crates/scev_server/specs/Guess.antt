@@ -1,9 +1,10 @@
 -- What a reader guesses of a text by its words. A guess need not be right: it is printed and compared.
-use Rattle.std.specs.Prelude.{ℕ, zero, suc, ◌+◌, ◌-◌, ◌*◌, ◌%◌, ◌^◌, ◌==◌, ◌||◌, ◌&&◌, Bool, true, false, ◌≡◌, List, [], ◌∷◌, Option, Some, None, length, drop, codes, nat_lt, slice_index, slice_index_or, if◌then◌else◌}
+use Rattle.std.specs.Prelude.{ℕ, zero, suc, ◌+◌, ◌-◌, ◌*◌, ◌%◌, ◌^◌, ◌==◌, ◌||◌, ◌&&◌, Bool, true, false, ◌≡◌, List, [], ◌∷◌, Some, length, drop, codes, nat_lt, slice_index, slice_index_or, if◌then◌else◌}
 use Rattle.std.specs.Str.{bytes_eq}
 use Rattle.std.specs.List.{slice_split, filter, list_all}
 use Rattle.arith_word.specs.declared.op.BinOp.{BinOp}
 use Rattle.arith_word.specs.declared.op.BinOp.TheVariants.{Addi, Subi, Muli}
+use Rattle.arith_word.specs.Labels.{label_at}
 use Rattle.arith_word.specs.declared.label.Label.{Label}
 use Rattle.mlir_ir.specs.declared.types.Arg.{Arg}
 use Rattle.mlir_ir.specs.declared.types.Body.{Body}
@@ -12,15 +13,13 @@ use Rattle.mlir_ir.specs.declared.types.IrType.{IrType}
 use Rattle.mlir_ir.specs.declared.types.IrType.TheVariants.{Int, Index}
 use Rattle.mlir_ir.specs.declared.types.Item.{Item}
 use Rattle.mlir_ir.specs.declared.types.Kind.{Kind, Const, Bin}
-use Rattle.mlir_ir.specs.declared.types.Op.{Op}
-use Rattle.mlir_ir.specs.declared.types.Pack.{Pack}
+use Rattle.mlir_ir.specs.Limits.{arg_limit, item_limit, result_limit}
 use Rattle.mlir_ir.specs.Names.{is_name_byte}
 use Rattle.mlir_ir.specs.Words.{bits_of}
 use Rattle.scev_server.specs.declared.input.Command.{Command}
 use Rattle.scev_server.specs.declared.input.Command.TheVariants.{Scev}
 use Rattle.scev_server.specs.declared.input.Input.{Input}
 use Rattle.scev_server.specs.declared.input.Script.{Script}
-use Rattle.scev_server.specs.declared.input.ValueName.{ValueName}
 use Rattle.scev_server.specs.declared.small.guess.Shape.{Shape}
 use Rattle.scev_server.specs.declared.small.guess.Shape.TheVariants.{Truth, Number, Binary}
 
@@ -168,7 +167,7 @@ item_size ws = shape_size (shape_of ws)
 
 -- the label of the result of an item's operation
 abbrev pub item_label : ℕ → ℕ
-item_label k = k * 2 ^ 14
+item_label k = label_at 0 k 0
 
 abbrev pub items_of : ℕ → ℕ → (List ℕ → ℕ) → List (List ℕ) → Defs Item
 items_of n k scope ws = defs_of item_of item_size item_label n k scope ws
@@ -178,10 +177,10 @@ abbrev pub behind_arrow : List (List ℕ) → List (List ℕ)
 behind_arrow ws = if begins 45 (word ws 0) then drop 1 ws else ws
 
 abbrev pub types_of : List (List ℕ) → Row IrType
-types_of ws = row_of type_of 105 16 ws
+types_of ws = row_of type_of 105 result_limit ws
 
 abbrev pub uses_of : (List ℕ → ℕ) → List (List ℕ) → Row Label
-uses_of scope ws = row_of (use_of scope) 37 16 ws
+uses_of scope ws = row_of (use_of scope) 37 result_limit ws
 
 -- a command, where its line is there
 abbrev pub commands_of : List (List ℕ) → List Command
@@ -208,13 +207,13 @@ IsPart value rest part = (value ≡ part.value) × (rest ≡ part.rest)
 -- the items of a body and what it returns, up to its brace
 abbrev pub body_of : (List ℕ → ℕ) → List (List ℕ) → Part Body
 body_of scope ws =
-    let items = items_of 1023 1 scope ws in
+    let items = items_of item_limit 1 scope ws in
     let ret = uses_of items.scope (drop 1 items.rest) in
     record { value = record { items = items.values; ret = ret.values }; rest = drop (length ret.values + 1) ret.rest }
 
 abbrev pub func_of : List (List ℕ) → Part Func
 func_of ws =
-    let args = args_of 16 0 (λ q. 0) (drop 2 ws) in
+    let args = args_of arg_limit 0 (λ q. 0) (drop 2 ws) in
     let results = types_of (behind_arrow args.rest) in
     let body = body_of args.scope (drop 1 results.rest) in
     record {

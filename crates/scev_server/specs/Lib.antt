@@ -1,5 +1,3 @@
-pub mod Bytes
-pub mod Faults
 pub mod Input
 pub mod Guess
 pub mod Scope
@@ -8,6 +6,5 @@ pub mod Printed
 pub mod Expressions
 pub mod Output
 pub mod Plain
-pub mod Memory
 pub mod Reply
 pub mod Serving

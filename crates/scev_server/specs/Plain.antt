@@ -1,7 +1,7 @@
 -- Functions of which each item is one small operation with one named result.
-use Rattle.std.specs.Prelude.{◌≡◌, ◌≢◌, ℕ, ◌^◌, ◌≤◌, List, [], ◌∷◌, All, Option, IfSome, length, slice_get, IsTrue}
+use Rattle.std.specs.Prelude.{◌≡◌, ◌≢◌, ℕ, ◌≤◌, List, [], ◌∷◌, All, IfSome, length, slice_get, IsTrue}
 use Rattle.std.specs.Option.{option_map_or}
-use Rattle.mlir_ir.specs.declared.types.Body.{Body}
+use Rattle.arith_word.specs.Labels.{index_count}
 use Rattle.mlir_ir.specs.declared.types.Func.{Func}
 use Rattle.mlir_ir.specs.declared.types.IrType.{IrType}
 use Rattle.mlir_ir.specs.declared.types.Item.{Item}
@@ -9,6 +9,7 @@ use Rattle.mlir_ir.specs.declared.types.Op.{Op}
 use Rattle.mlir_ir.specs.declared.types.Pack.{Pack}
 use Rattle.fresh_scev.specs.Straight.{is_straight_line}
 use Rattle.mlir_ir.specs.Check.{IsWellFormed}
+use Rattle.mlir_ir.specs.Limits.{item_limit}
 use Rattle.mlir_ir.specs.Values.{Value, func_values}
 use Rattle.scev_server.specs.Input.{IsSmallKind}
 
@@ -33,9 +34,9 @@ items_of f = option_map_or (λ body. body.items) f.body []
 
 pub record IsPlainFunc (f : Func) : Type 0 where
   pub first : f.index ≡ 0
-  pub args : length f.args ≤ 2 ^ 14
+  pub args : length f.args ≤ index_count
   pub items : IfSome f.body (λ body. All IsPlainItem body.items)
-  pub few : length (items_of f) ≤ 1023
+  pub few : length (items_of f) ≤ item_limit
   pub apart : AreApart (func_values f)
 
 -- the name of the first result of the first operation

@@ -1,6 +1,7 @@
 -- What the printer prints of an input; of a small and well-formed one that is its text.
-use Rattle.std.specs.Prelude.{ℕ, ◌-◌, ◌/◌, ◌^◌, ◌==◌, List, [], ◌∷◌, ◌++◌, codes, map, slice_get, Option, None, Some, if◌then◌else◌}
+use Rattle.std.specs.Prelude.{ℕ, ◌-◌, ◌==◌, List, [], ◌∷◌, ◌++◌, codes, map, slice_get, Option, None, Some, if◌then◌else◌}
 use Rattle.std.specs.Option.{option_map_or}
+use Rattle.arith_word.specs.Labels.{item_of, index_of}
 use Rattle.arith_word.specs.declared.label.Label.{Label}
 use Rattle.arith_word.specs.declared.op.BinOp.{BinOp}
 use Rattle.arith_word.specs.declared.op.BinOp.TheVariants.{Addi, Subi, Muli}
@@ -43,7 +44,7 @@ body_use (Some body) place = item_use body.items place
 
 -- the value with that label
 abbrev pub label_use : Func → ℕ → List ℕ
-label_use f label = if label / 2 ^ 14 == 0 then arg_use f.args label else body_use f.body (label / 2 ^ 14 - 1)
+label_use f label = if item_of label == 0 then arg_use f.args (index_of label) else body_use f.body (item_of label - 1)
 
 abbrev pub label_text : Func → Label → List ℕ
 label_text f label = label_use f label.0

@@ -1,6 +1,6 @@
 -- How a call of the server ends.
 use Rattle.std.specs.Prelude.{ℕ, ◌≡◌, ◌≤◌, ◌<◌, List, length, Option}
-use Rattle.scev_server.specs.Bytes.{before_giving, IsSpent}
+use Rattle.scev_io.specs.Bytes.{before_giving, IsSpent}
 use Rattle.scev_server.specs.Reply.{IsInput, IsNoInput, input_limit}
 use Rattle.scev_server.specs.declared.input.Input.{Input}
 use Rattle.scev_server.specs.declared.status.Status.{Status}

@@ -4,7 +4,8 @@ ghost use Rattle.scev_server.specs.Expressions.{reading_text, symbol_text, term_
 ghost use Rattle.scev_server.specs.Plain.{IsPlainFunc};
 
 use crate::names::value_name;
-use arith_word::{Label, Width, Word, signed};
+use crate::signed::push_signed;
+use arith_word::{Label, Width};
 use fresh_scev::{Expr, Term};
 use mlir_ir::Func;
 use std::alloc::AllocError;
@@ -17,8 +18,7 @@ fn push_reading(out: &mut String, w: Width, v: u64) -> Result<(), AllocError>
     if w.bits() == 1 {
         write!(out, "{v}")
     } else {
-        let reading = signed(Word { w, v });
-        write!(out, "{reading}")
+        push_signed(out, w.bits(), v)
     }
 }
 

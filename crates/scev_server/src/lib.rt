@@ -1,23 +1,21 @@
-//! The server's top call, and the sources and sinks that it reads and writes.
+//! The server's top call: an input is read from a source, and its answer is written to a sink.
 #![tactic(auto)]
 
 mod expression;
+mod gate;
 mod input;
-mod memory;
 mod names;
-mod outside;
 mod reply;
 mod session;
+mod signed;
 mod small;
-mod standard;
 mod status;
 mod top;
-mod whole;
 
+pub use gate::{Gate, OpenGate};
 pub use input::{Command, Input, Script, ValueName};
-pub use memory::{MemSink, MemSource};
-pub use outside::{Failed, Gate, OpenGate, Sink, Source};
-pub use standard::{StdSink, StdSource};
+pub use scev_io::{
+    Failed, MemSink, MemSource, ReadEnd, Sink, Source, StdSink, StdSource, read_all, write_all,
+};
 pub use status::Status;
 pub use top::serve;
-pub use whole::{ReadEnd, read_all, write_all};

@@ -50,8 +50,10 @@ pub fn value_name(func: &Func, label: Label) -> Option<&Text>
     requires { IsPlainFunc func.now }
     ensures { option_copied result ≡ option_map (λ v. v.name) (value_at (func_values func.now) label.0) }
 {
-    let item = (label.0 / (1 << 14)) as usize;
-    let index = (label.0 % (1 << 14)) as usize;
+    if label.func() != func.index {
+        return None;
+    }
+    let (item, index) = (label.item(), label.index());
     if item == 0 {
         arg_name(func, index)
     } else if index != 0 {
@@ -119,9 +121,9 @@ pub fn value_label(func: &Func, named: &ValueName) -> Option<Label>
 {
     let name = named.name.as_bytes();
     match arg_place(func.args.as_slice(), name) {
-        Some(at) => Some(Label(at as u32)),
+        Some(at) => Some(Label::new(func.index, 0, at)),
         None => match result_number(func, name) {
-            Some(number) => Some(Label(number as u32 * (1 << 14))),
+            Some(number) => Some(Label::new(func.index, number, 0)),
             None => None,
         },
     }

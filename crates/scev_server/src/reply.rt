@@ -1,7 +1,7 @@
 ghost use Rattle.std.specs.Prelude.{IfOk};
 ghost use Rattle.scev_server.specs.Reply.{IsReply};
 
-use crate::outside::Gate;
+use crate::gate::Gate;
 use crate::session::output_text;
 use crate::small::read_input;
 use std::alloc::{AllocError, Global};

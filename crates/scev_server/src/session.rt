@@ -8,9 +8,9 @@ ghost use Rattle.scev_server.specs.Output.{Answers, IsWalk, AreParts, Output};
 ghost use Rattle.scev_server.specs.Plain.{IsAnalysable};
 
 use crate::expression::push_expr;
+use crate::gate::Gate;
 use crate::input::{Command, Input, Script};
 use crate::names::value_label;
-use crate::outside::Gate;
 use arith_word::Label;
 use fresh_scev::analyse;
 use mlir_ir::Func;

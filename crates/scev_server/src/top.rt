@@ -1,13 +1,13 @@
 ghost use Rattle.std.specs.Prelude.{◌≡◌, ◌≢◌, ℕ, ◌+◌, ◌<◌, ◌≤◌, ◌↔◌, List, Bool, length, take, IfSome};
-ghost use Rattle.scev_server.specs.Bytes.{before_giving, after_putting};
-ghost use Rattle.scev_server.specs.Faults.{Rose};
+ghost use Rattle.scev_io.specs.Bytes.{before_giving, after_putting};
+ghost use Rattle.scev_io.specs.Faults.{Rose};
 ghost use Rattle.scev_server.specs.Reply.{input_limit, IsReply, IsAnswer, IsRefusal};
 ghost use Rattle.scev_server.specs.Serving.{ReadToEnd, IsSilent, CallsFor};
 
-use crate::outside::{Gate, Sink, Source};
+use crate::gate::Gate;
 use crate::reply::reply_to;
 use crate::status::Status;
-use crate::whole::{ReadEnd, read_all, write_all};
+use scev_io::{ReadEnd, Sink, Source, read_all, write_all};
 use std::alloc::Global;
 use std::thread::Threads;
 
@@ -85,8 +85,8 @@ pub fn serve<R: Threads, S: Source, K: Sink, G: Gate + Sync>(
 #[cfg(test)]
 mod tests {
     use super::*;
-    use crate::memory::{MemSink, MemSource};
-    use crate::outside::OpenGate;
+    use crate::gate::OpenGate;
+    use scev_io::{MemSink, MemSource};
     use std::alloc::AllocError;
     use std::process::Abort;
     use std::test::Fail;
@@ -211,8 +211,8 @@ mod tests {
     fn stops_behind_the_limit(rt: HostRuntime) -> Result<(), Fail> {
         let alloc = rt.alloc();
         for (length, status, written) in [
-            (4_194_304, Status::BadInput, REFUSAL),
-            (4_194_305, Status::TooLong, b"".as_slice()),
+            (INPUT_LIMIT as usize, Status::BadInput, REFUSAL),
+            (INPUT_LIMIT as usize + 1, Status::TooLong, b"".as_slice()),
         ] {
             let ended = run(&rt, alloc, ample(alloc, vec![in alloc; b' '; length]?))?;
             expect(&rt, &ended, status, written, (0, 0));

@@ -5,10 +5,9 @@ ghost use Rattle.scev_server.specs.Reading.{IsFit};
 ghost use Rattle.std.specs.List.{list_all};
 
 use crate::input::{Command, Input, Script};
-use crate::small::leaf::{is_digit_byte, is_letter_byte};
 use crate::small::print::print;
 use arith_word::BinOp;
-use mlir_ir::{Flags, Func, Item, Kind, is_name};
+use mlir_ir::{Flags, Func, Item, Kind, is_digit, is_letter, is_name};
 use std::alloc::{AllocError, Global};
 
 fn has_no_flags(flags: &Flags) -> bool
@@ -67,7 +66,7 @@ fn is_small(func: &Func) -> bool
 fn is_session(byte: u8) -> bool
     ensures { result ≡ is_session_byte byte }
 {
-    is_letter_byte(byte) || is_digit_byte(byte) || byte == b'_'
+    is_letter(byte) || is_digit(byte) || byte == b'_'
 }
 
 fn are_session(bytes: &[u8]) -> bool

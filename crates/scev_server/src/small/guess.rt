@@ -1,4 +1,5 @@
 ghost use Rattle.std.specs.Prelude.{◌≡◌, ℕ, List, IfOk, drop};
+ghost use Rattle.mlir_ir.specs.Limits.{arg_limit, item_limit};
 ghost use Rattle.mlir_ir.specs.Words.{bits_of};
 ghost use Rattle.scev_server.specs.Scope.{label_in};
 ghost use Rattle.scev_server.specs.Guess.{word, args_of, shape_of, shape_size, result_of, kind_of, item_of, items_of, types_of, behind_arrow, use_of, uses_of, commands_of, sessions_of, body_of, func_of, input_of, words_of, IsRow, IsDefs, IsPart};
@@ -10,6 +11,7 @@ use crate::small::leaf::{
 use crate::small::scope::Scope;
 use crate::small::words::Words;
 use arith_word::{Label, List};
+use mlir_ir::limits::{ARG_LIMIT, ITEM_LIMIT, RESULT_LIMIT};
 use mlir_ir::{Arg, Body, Flags, Func, IrType, Item, Kind, Op, Pack};
 use sqlite_items::Items;
 use std::alloc::{AllocError, Global};
@@ -100,38 +102,38 @@ fn item_at(alloc: Global, scope: &Scope, words: &Words) -> Result<Item, AllocErr
     })
 }
 
-/// The arguments in front, at most 16, with their labels.
+/// The arguments in front, no more than the limit, with their labels.
 fn args_at<'a>(
     alloc: Global,
     scope: &mut Scope<'a>,
     words: &mut Words<'a>,
 ) -> Result<Vec<Arg>, AllocError>
-    ensures { IfOk result (λ args. IsDefs args.items words.new (label_in scope.new) (args_of 16 0 (label_in scope.old) words.old)) }
+    ensures { IfOk result (λ args. IsDefs args.items words.new (label_in scope.new) (args_of arg_limit 0 (label_in scope.old) words.old)) }
 {
     let mut args = Vec::new(alloc);
-    while args.len() < 16 && begins_with(words.word(0), b'%') {
+    while args.len() < ARG_LIMIT && begins_with(words.word(0), b'%') {
         let name = name_at(alloc, words.word(0))?;
         let ty = type_at(words.word(1));
-        scope.define(unmarked(words.word(0)), args.len() as u32)?;
+        scope.define(unmarked(words.word(0)), Label::new(0, 0, args.len()).0)?;
         words.skip(2);
         args.push(Arg { name, ty })?;
     }
     Ok(args)
 }
 
-/// The items in front, at most 1,023, with their labels.
+/// The items in front, no more than the limit, with their labels.
 fn items_at<'a>(
     alloc: Global,
     scope: &mut Scope<'a>,
     words: &mut Words<'a>,
 ) -> Result<Vec<Item>, AllocError>
-    ensures { IfOk result (λ items. IsDefs items.items words.new (label_in scope.new) (items_of 1023 1 (label_in scope.old) words.old)) }
+    ensures { IfOk result (λ items. IsDefs items.items words.new (label_in scope.new) (items_of item_limit 1 (label_in scope.old) words.old)) }
 {
     let mut items = Vec::new(alloc);
-    while items.len() < 1023 && begins_with(words.word(0), b'%') {
+    while items.len() < ITEM_LIMIT && begins_with(words.word(0), b'%') {
         let item = item_at(alloc, scope, words)?;
-        let number = items.len() as u32 + 1;
-        scope.define(unmarked(words.word(0)), number << 14)?;
+        let label = Label::new(0, items.len() + 1, 0);
+        scope.define(unmarked(words.word(0)), label.0)?;
         words.skip(shape_words(shape_at(words)));
         items.push(item)?;
     }
@@ -147,24 +149,24 @@ fn skip_arrow(words: &mut Words)
     }
 }
 
-/// The types in front, at most 16.
+/// The types in front, no more than the limit of results.
 fn types_at(alloc: Global, words: &mut Words) -> Result<Vec<IrType>, AllocError>
     ensures { IfOk result (λ types. IsRow types.items words.new (types_of words.old)) }
 {
     let mut types = Vec::new(alloc);
-    while types.len() < 16 && begins_with(words.word(0), b'i') {
+    while types.len() < RESULT_LIMIT && begins_with(words.word(0), b'i') {
         types.push(type_at(words.word(0)))?;
         words.skip(1);
     }
     Ok(types)
 }
 
-/// The used values in front, at most 16.
+/// The used values in front, no more than the limit of results.
 fn uses_at(alloc: Global, scope: &Scope, words: &mut Words) -> Result<Vec<Label>, AllocError>
     ensures { IfOk result (λ uses. IsRow uses.items words.new (uses_of (label_in scope.now) words.old)) }
 {
     let mut uses = Vec::new(alloc);
-    while uses.len() < 16 && begins_with(words.word(0), b'%') {
+    while uses.len() < RESULT_LIMIT && begins_with(words.word(0), b'%') {
         uses.push(label_at(scope, words.word(0)))?;
         words.skip(1);
     }

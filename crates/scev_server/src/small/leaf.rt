@@ -1,36 +1,18 @@
 ghost use Rattle.std.specs.Prelude.{◌≡◌, ℕ, ◌≤◌, ◌==◌, ◌-◌, ◌%◌, ◌^◌, IfOk, drop};
 ghost use Rattle.std.specs.List.{list_all};
-ghost use Rattle.mlir_ir.specs.Names.{is_digit, is_letter, is_name_byte};
+ghost use Rattle.mlir_ir.specs.Names as names;
 ghost use Rattle.scev_server.specs.Guess.{begins, text_of, name_of, type_of, as_width, op_of, digits_behind, number_of};
 ghost use Rattle.mlir_ir.specs.Words.{bits_of};
 ghost use Rattle.mlir_ir.specs.declared.types.IrType.TheVariants.{Int};
 
 use arith_word::{BinOp, Text, Width, neg};
-use mlir_ir::IrType;
+use mlir_ir::{IrType, is_name_byte};
 use std::alloc::{AllocError, Global};
 
-pub fn is_digit_byte(b: u8) -> bool
-    ensures { result ≡ is_digit b }
-{
-    b'0' <= b && b <= b'9'
-}
-
-pub fn is_letter_byte(b: u8) -> bool
-    ensures { result ≡ is_letter b }
-{
-    (b'A' <= b && b <= b'Z') || (b'a' <= b && b <= b'z')
-}
-
-pub fn may_name(b: u8) -> bool
-    ensures { result ≡ is_name_byte b }
-{
-    is_letter_byte(b) || is_digit_byte(b) || b == b'$' || b == b'.' || b == b'_' || b == b'-'
-}
-
 fn may_all_name(bytes: &[u8]) -> bool
-    ensures { result ≡ list_all is_name_byte bytes.now }
+    ensures { result ≡ list_all names.is_name_byte bytes.now }
 {
-    bytes.iter().all(|b| may_name(*b))
+    bytes.iter().all(|b| is_name_byte(*b))
 }
 
 /// Whether a word begins with a byte.

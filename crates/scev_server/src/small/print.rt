@@ -7,6 +7,7 @@ ghost use Rattle.scev_server.specs.Input.{command_text, commands_text, sessions_
 ghost use Rattle.scev_server.specs.Printed.{arg_use, item_use, label_text, label_use, op_name, ops_name, printed, printed_body, printed_ends, printed_func, printed_head, printed_items, printed_kind, printed_line, printed_ops, script_text};
 
 use crate::input::{Command, Input, Script};
+use crate::signed::push_signed;
 use arith_word::{BinOp, Label};
 use mlir_ir::{Arg, Body, Func, IrType, Item, Kind, Op};
 use std::alloc::{AllocError, Global};
@@ -68,27 +69,11 @@ fn push_item_use(out: &mut String, items: &[Item], place: usize) -> Result<(), A
 fn push_use(out: &mut String, func: &Func, label: Label) -> Result<(), AllocError>
     ensures { OnOk result (string_bytes out.new ≡ string_bytes out.old ++ label_use func.now label.0) }
 {
-    let number = label.0 >> 14;
+    let number = label.item();
     if number == 0 {
-        push_arg_use(out, func.args.as_slice(), label.0 as usize)?;
+        push_arg_use(out, func.args.as_slice(), label.index())?;
     } else if let Some(body) = &func.body {
-        push_item_use(out, body.items.as_slice(), number as usize - 1)?;
-    }
-    Ok(())
-}
-
-/// The signed reading of `v` at that many bits.
-fn push_number(out: &mut String, bits: u32, v: u64) -> Result<(), AllocError>
-    requires low { 1 ≤ bits }
-    requires high { bits ≤ 64 }
-    ensures { OnOk result (string_bytes out.new ≡ string_bytes out.old ++ signed_decimal (signed_reading bits v)) }
-{
-    let half = 1u64 << (bits - 1);
-    if v < half {
-        write!(out, "{v}")?;
-    } else {
-        let size = (half - 1 + half).saturating_sub(v) + 1;
-        write!(out, "-{size}")?;
+        push_item_use(out, body.items.as_slice(), number - 1)?;
     }
     Ok(())
 }
@@ -102,12 +87,12 @@ fn push_constant(out: &mut String, ty: IrType, v: u64) -> Result<(), AllocError>
             if bits == 1 {
                 write!(out, "{}", if v == 0 { "false" } else { "true" })?;
             } else {
-                push_number(out, bits, v)?;
+                push_signed(out, bits, v)?;
                 write!(out, " : i{bits}")?;
             }
         }
         IrType::Index => {
-            push_number(out, 64, v)?;
+            push_signed(out, 64, v)?;
             write!(out, " : index")?;
         }
     }

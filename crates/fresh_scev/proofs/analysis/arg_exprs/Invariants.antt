@@ -1,5 +1,5 @@
 use Rattle.std.proofs.Common.{◌≡◌, ◌+◌, ◌++◌, drop, length}
-use Rattle.mlir_ir.specs.Labels.{label_at}
+use Rattle.arith_word.specs.Labels.{label_at}
 use Rattle.fresh_scev.specs.Fresh.{arg_exprs}
 use Rattle.fresh_scev.proofs.analysis.arg_exprs.Given as goal
 

@@ -1,13 +1,13 @@
-use Rattle.std.proofs.Common.{arith, ◌≡◌, ◌∙◌, sym, subst, None, All}
+use Rattle.std.proofs.Common.{arith, ◌≡◌, ◌∙◌, sym, subst, None, take, ◌+◌}
 use Rattle.std.proofs.lemmas.Grind.{common_steps}
 use Rattle.std.proofs.lemmas.List.{take_all, drop_all}
-use Rattle.std.proofs.lemmas.List.Elements.{All-more}
 use Rattle.mlir_ir.specs.Check.{first, items_breaks, past_items}
-use Rattle.mlir_ir.specs.Labels.{label_at}
+use Rattle.arith_word.specs.Labels.{label_at}
 use Rattle.mlir_ir.specs.Outer.{KeepsLabels}
 use Rattle.mlir_ir.specs.Values.{arg_values}
 use Rattle.mlir_ir.proofs.Bodies.{item_first, next_item, item_last, body_broken, body_ended}
 use Rattle.mlir_ir.proofs.Steps.{found_here, found_later}
+use Rattle.mlir_ir.proofs.TypeAtTop.{KeepFrom, keep_more, kept_all}
 use Rattle.mlir_ir.proofs.check.check_body.Goals as goal
 
 pub returns-in_err-behind : goal.returns-in_err-behind
@@ -24,7 +24,7 @@ loop-k-preserved c =
     let n = c.in_ok-behind.ensures.ops in
     let step = next_item c.args.func.now.index scope c.as_slice-items.result.now c.loop-k.k c.index-items-k.result c.loop-k-test.true c.index-items-k.is c.loop-k.behind _ m n in
     record {
-      kept = All-more KeepsLabels c.as_slice-items.result.now c.loop-k.k c.index-items-k.result c.loop-k-test.true c.loop-k.invariant.kept (subst KeepsLabels c.index-items-k.is c.in_ok-behind.ensures.few);
+      kept = keep_more 1 c.as_slice-items.result.now c.loop-k.k c.index-items-k.result c.loop-k-test.true c.loop-k.invariant.kept (subst (KeepsLabels (c.loop-k.k + 1)) c.index-items-k.is c.in_ok-behind.ensures.few);
       rest = found_later _ _ _ _ c.loop-k.invariant.rest step c.in_ok-behind.ensures.found;
       last = sym (item_last c.args.func.now.index scope c.as_slice-items.result.now c.loop-k.k c.index-items-k.result c.loop-k-test.true c.index-items-k.is c.loop-k.behind _ m n) ∙ c.loop-k.invariant.last;
     }
@@ -39,7 +39,7 @@ returns c =
     body_ended c.args.func.now c.args.body.now c.args.at c.loop-k.behind.last _ c.requires.begin (rw (c.as_slice-items.ensures, c.as_slice-args.ensures) at none) (rw c.as_slice-items.ensures at last) kept
 
 pub invariant_of-outer-clause-few_labels : goal.invariant_of-outer-clause-few_labels
-invariant_of-outer-clause-few_labels c = c.loop-k.invariant.kept
+invariant_of-outer-clause-few_labels c = kept_all (take c.loop-k.k c.as_slice-items.result.now) c.loop-k.invariant.kept
 
 pub invariant_of-outer-2-clause-few_labels : goal.invariant_of-outer-2-clause-few_labels
-invariant_of-outer-2-clause-few_labels c = subst (All KeepsLabels) (take_all c.loop-k.k c.as_slice-items.result.now c.loop-k-test.false) c.loop-k.invariant.kept
+invariant_of-outer-2-clause-few_labels c = kept_all c.as_slice-items.result.now (subst (KeepFrom 1) (take_all c.loop-k.k c.as_slice-items.result.now c.loop-k-test.false) c.loop-k.invariant.kept)

@@ -1,4 +1,4 @@
--- The digits at the front are the longest decimal number.
+-- The leading digits are the longest decimal number.
 use Rattle.mlir_lex.proofs.Lengths.{decimal_of}
 use Rattle.mlir_lex.proofs.front.decimal_len.Goals as goal
 

@@ -1,4 +1,4 @@
--- `x` with hexadecimal digits behind `0`.
+-- A hexadecimal number is `0`, `x` and hexadecimal digits.
 use Rattle.std.proofs.Common.{refl}
 use Rattle.mlir_ir.specs.Tokens.{is_led, is_hexadecimal}
 use Rattle.mlir_lex.proofs.Lengths.{led_of}

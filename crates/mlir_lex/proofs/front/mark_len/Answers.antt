@@ -1,4 +1,4 @@
--- A mark of one byte, where no `->` stands.
+-- A mark has one byte, unless it is `->`.
 use Rattle.std.proofs.Common.{◌==◌, ◌∙◌, sym}
 use Rattle.std.proofs.lemmas.Bool.{and_left, and_right, ne_eqb}
 use Rattle.mlir_ir.specs.Tokens.{is_next}

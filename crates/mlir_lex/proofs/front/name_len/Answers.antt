@@ -1,4 +1,4 @@
--- A name is digits alone, or bytes of a name of which the first is no digit.
+-- A name is digits alone, or bytes of a name of which the first isn't a digit.
 use Rattle.std.proofs.Common.{sym, ◌∙◌}
 use Rattle.mlir_lex.proofs.Lengths.{digits_name_of, other_name_of}
 use Rattle.mlir_lex.proofs.front.name_len.Goals as goal

@@ -1,4 +1,4 @@
--- A number with `0x`, or else its digits.
+-- A number is `0x` and hexadecimal digits, or else decimal digits.
 use Rattle.std.proofs.Common.{◌+◌, ◌∷◌, ◌<◌, subst, arith}
 use Rattle.mlir_ir.specs.Tokens.{is_led, is_hexadecimal}
 use Rattle.mlir_lex.specs.Longest.{IsLongest}

@@ -1,4 +1,4 @@
--- The longest token of the kind of the first byte is the longest token.
+-- The longest token of the kind that the first byte determines is the longest token.
 use Rattle.std.proofs.Common.{◌<◌, arith}
 use Rattle.mlir_lex.proofs.Fronts.{front_at, none_at, none_begins_at}
 use Rattle.mlir_lex.proofs.front.token_front.Goals as goal

@@ -1,4 +1,4 @@
--- Hexadecimal digits behind `x`.
+-- The part after `0` is `x` and hexadecimal digits.
 use Rattle.std.proofs.Common.{sym, subst, refl, List, ℕ}
 use Rattle.mlir_ir.specs.Tokens.{is_led, is_hexadecimal}
 use Rattle.mlir_lex.specs.Longest.{IsLongest}

@@ -1,4 +1,4 @@
--- The bytes of a token are a text.
+-- The bytes of a token are UTF-8.
 use Rattle.mlir_lex.proofs.Ascii.{token_utf8}
 use Rattle.mlir_lex.proofs.lexer.token_here.Goals as goal
 

@@ -1,4 +1,4 @@
--- A word that names nothing is not here where a name could stand.
+-- A word other than an operation name or a type is refused as such where one of these is accepted.
 use Rattle.std.proofs.Common.{◌<◌, length, sym, ◌∙◌, arith}
 use Rattle.std.proofs.lemmas.Result.{IfOk-weaker}
 use Rattle.mlir_ir.specs.declared.terminal.Terminal.TheVariants.{Module}

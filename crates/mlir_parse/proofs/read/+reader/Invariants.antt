@@ -6,7 +6,7 @@ use Rattle.mlir_parse.specs.Tables.{rank, rank_line}
 use Rattle.mlir_ir.specs.declared.syntax.Branch.{Branch}
 use Rattle.mlir_parse.specs.declared.fault.Fault.{Fault}
 
--- a region lowers the first part, and a step into a rule the second
+-- entering a region lowers the first summand, and a step into a rule lowers the second
 abbrev pub decreases-read : goal.decreases-read
 decreases-read l = (12 - l.depth) * 3000 + 3 * rank (seen l.rule.now)
 

@@ -1,4 +1,4 @@
--- The token at the place is in the set, or none is there.
+-- The token at the index is in the set, or there is no token.
 use Rattle.std.proofs.Common.{◌∙◌}
 use Rattle.mlir_parse.specs.Seen.{seen}
 use Rattle.mlir_parse.proofs.Places.{starts_by}

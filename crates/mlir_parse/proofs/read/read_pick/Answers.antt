@@ -1,4 +1,4 @@
--- One token, or nothing.
+-- An optional pick is one token or none.
 use Rattle.std.proofs.Common.{sym, ◌∙◌, drop, Ok}
 use Rattle.std.proofs.lemmas.Result.{IfOk-weaker}
 use Rattle.mlir_ir.specs.Grammar.{one, nothing}

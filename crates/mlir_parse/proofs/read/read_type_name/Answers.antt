@@ -1,4 +1,4 @@
--- The line is one token.
+-- A type is one token.
 use Rattle.std.proofs.Common.{Ok, Err, refl}
 use Rattle.mlir_ir.specs.Grammar.{body}
 use Rattle.mlir_ir.specs.declared.syntax.Form.TheVariants.{TypeName}

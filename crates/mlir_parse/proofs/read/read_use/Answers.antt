@@ -1,4 +1,4 @@
--- The line is a value, and perhaps a pick behind it.
+-- A use is a value and an optional pick.
 use Rattle.std.proofs.Common.{Ok, Err, refl}
 use Rattle.mlir_ir.specs.Grammar.{body, one, maybe}
 use Rattle.mlir_ir.specs.declared.syntax.Form.TheVariants.{Use}

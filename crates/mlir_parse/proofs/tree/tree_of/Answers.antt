@@ -1,4 +1,4 @@
--- The run over the whole tokens gives the tree, or the fault.
+-- A run over all tokens gives their tree or their syntax error.
 use Rattle.mlir_parse.specs.Seen.{seen}
 use Rattle.mlir_parse.proofs.Roots.{fault_is, early_end, whole_tree}
 use Rattle.mlir_parse.proofs.tree.tree_of.Goals as goal

@@ -1,5 +1,5 @@
 -- A token's branch as a tree.
-use Rattle.std.proofs.Common.{◌∙◌, ap, refl}
+use Rattle.std.proofs.Common.{◌∙◌, ap}
 use Rattle.mlir_ir.specs.Trees.{node, forest}
 use Rattle.mlir_ir.specs.declared.syntax.Form.TheVariants.{Leaf}
 use Rattle.mlir_ir.specs.declared.syntax.Branch.{roll-Branch, out-roll-Branch}
