@@ -1,0 +1,14 @@
+pub mod Shapes
+pub mod Chain
+pub mod Fitting
+pub mod Distances
+pub mod Predicates
+pub mod Lines
+pub mod Roots
+pub mod Steps
+pub mod Counting
+pub mod Trips
+pub mod Passed
+pub mod Exits
+pub mod Invariant
+pub mod Guards
