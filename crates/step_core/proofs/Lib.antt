@@ -1,0 +1,17 @@
+pub mod Hashing
+pub mod Lists
+pub mod Positions
+pub mod Slots
+pub mod Fullness
+pub mod Wins
+pub mod Standing
+pub mod Memos
+pub mod Filling
+pub mod Keeping
+pub mod Splitting
+pub mod Starting
+pub mod Closing
+pub mod Replaying
+pub mod SameParts
+pub mod Injective
+pub mod Heights

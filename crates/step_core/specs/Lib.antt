@@ -1,0 +1,11 @@
+pub mod Words
+pub mod Maps
+pub mod Parts
+pub mod Cells
+pub mod Paths
+pub mod Meaning
+pub mod Accesses
+pub mod Good
+pub mod Views
+pub mod Answers
+pub mod Events
