@@ -1,0 +1,18 @@
+-- The counts of a session's commands, which the limits on a session are about.
+use Rattle.std.specs.Prelude.{ℕ, ◌≡◌, ◌+◌, ◌&&◌, nat_le, Bool, true, List}
+use Rattle.std.specs.List.{count_by, sum_by}
+use Rattle.scev_script.specs.declared.script.Command.{Command}
+use Rattle.scev_script.specs.declared.limits.TheConstants.{MAX_COMMANDS, MAX_HELD, MAX_PRINTS, MAX_BUDGET}
+use Rattle.scev_script.specs.Scripts.{is_hold, is_print, budget_of, within_limits}
+
+-- the commands pass no limit, and these are their numbers of held names and of `print` commands and the sum of their budgets
+pub record AreCounted (commands : List Command) (held prints budget : ℕ) : Type 0 where
+  pub held_is : held ≡ count_by is_hold commands
+  pub prints_is : prints ≡ count_by is_print commands
+  pub budget_is : budget ≡ sum_by budget_of commands
+  pub within : within_limits commands ≡ true
+
+-- the limits allow one more command, with which these are the counts
+abbrev pub are_few : ℕ → ℕ → ℕ → ℕ → Bool
+are_few commands held prints budget =
+    nat_le (commands + 1) MAX_COMMANDS && nat_le held MAX_HELD && nat_le prints MAX_PRINTS && nat_le budget MAX_BUDGET

@@ -1,0 +1,10 @@
+pub mod Words
+pub mod Lines
+pub mod FirstLine
+pub mod Numbers
+pub mod Names
+pub mod Commands
+pub mod Scripts
+pub mod Counted
+pub mod Replies
+pub mod Within

@@ -1,0 +1,25 @@
+//! Scripts of sessions: reading an input, which is a module and then scripts, reading one command, and
+//! the lines of an answer.
+#![tactic(auto)]
+
+mod bytes;
+mod commands;
+mod error;
+mod input;
+mod limits;
+mod lines;
+mod names;
+mod numbers;
+mod reply;
+mod script;
+mod session;
+#[cfg(test)]
+mod tests;
+mod words;
+
+pub use commands::command;
+pub use error::{InputError, InputFault};
+pub use input::read_input;
+pub use limits::{MAX_BUDGET, MAX_COMMANDS, MAX_HELD, MAX_PRINTS, MAX_SESSIONS};
+pub use reply::{RefusalName, Reply, answer_text};
+pub use script::{Command, Input, Pin, Script, ValueName};
