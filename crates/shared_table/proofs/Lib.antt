@@ -1,0 +1,11 @@
+pub mod Blocks
+pub mod Held
+pub mod Learning
+pub mod LoadSteps
+pub mod Ends
+pub mod Dealt
+pub mod Taken
+pub mod Inside
+pub mod PutSteps
+pub mod Tries
+pub mod Unions

@@ -1,0 +1,12 @@
+-- Room for the words of a table that is closed.
+use Rattle.std.specs.Prelude.{◌≡◌, ◌≤◌, [], vec_capacity}
+use Rattle.step_core.specs.declared.limits.TheConstants.{MOST_PUBLICATIONS}
+use Rattle.shared_table.specs.declared.sizes.Sizes.{Sizes}
+use Rattle.shared_table.specs.declared.closing.Room.{Room}
+
+-- empty vectors, with room for all words of each kind
+pub record HasRoom (z : Sizes) (r : Room) : Type 0 where
+  pub log : (r.log.items ≡ []) × (MOST_PUBLICATIONS ≤ vec_capacity r.log)
+  pub keys : (r.keys.items ≡ []) × (z.memo ≤ vec_capacity r.keys)
+  pub ids : (r.ids.items ≡ []) × (z.memo ≤ vec_capacity r.ids)
+  pub cells : (r.cells.items ≡ []) × (z.cells ≤ vec_capacity r.cells)

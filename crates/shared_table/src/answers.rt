@@ -1,0 +1,19 @@
+//! What the calls that put words answer.
+
+/// What a put of a record gives.
+#[derive(Clone, Copy, Debug, PartialEq, Eq)]
+pub enum Put {
+    /// The record stands at this log place.
+    At(u16),
+    /// Every log place is full.
+    Full,
+}
+
+/// What a put of a memo's key or id gives, or a clearing of an id.
+#[derive(Clone, Copy, Debug, PartialEq, Eq)]
+pub enum Kept {
+    /// The place was written.
+    At(u32),
+    /// The place held this other word, and was left as it is.
+    Lost(u64),
+}
