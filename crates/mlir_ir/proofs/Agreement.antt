@@ -25,8 +25,9 @@ use Rattle.mlir_ir.specs.Typed.{Types, with_types, types_after, knows, fits, ali
 use Rattle.mlir_ir.specs.Named.{free, all_free, NamedArgs, NamedDeclared}
 use Rattle.mlir_ir.specs.View.{view_row, view_kind}
 use Rattle.mlir_ir.specs.WellFormed.{OnlySize}
-use Rattle.mlir_ir.proofs.TypedScopes.{and_parts}
 use Rattle.mlir_ir.proofs.TypedScopes.{types_bound, names_called_args}
+use Rattle.std.proofs.Math.Bool.{or-false}
+use Rattle.std.proofs.lemmas.Bool.{and_from, and_parts}
 
 -- breaks of limits alone
 
@@ -64,9 +65,6 @@ at_only at r e f g =
     (append_only (unless r.in_scope at Use) (unless r.typed at WrongType) (unless_only r.in_scope at Use e) (unless_only r.typed at WrongType f)) (unless_only r.counted at Count g)) (sized_only r.sized at)
 
 -- rules of one place
-
-pub both : (a b : Bool) → a ≡ true → b ≡ true → (a && b) ≡ true
-both a b e f = rw (e, f) refl
 
 pub have_same : (scope : List Value) (tys : List IrType) (ls : List Label) → have_types scope tys ls ≡ all_fit (type_at scope) tys ls
 have_same scope [] ls = refl
@@ -132,8 +130,8 @@ pub fits_op : (scope : List Value) (nest : Nest) (at : Position) (last : ℕ) (p
     → TypedOp (type_at scope) packs tys (view_kind kind) → all_free (has_name scope) packs ≡ true → OnlySize (breaks_at last (op_rules scope nest at packs tys kind))
 fits_op scope nest at last packs tys kind h g =
     at_only last (op_rules scope nest at packs tys kind) (uses_same scope kind ∙ h.in_scope)
-    (both (are_free scope packs) (is_kind_typed scope tys kind) (free_same scope packs ∙ g) (typed_same scope tys kind ∙ h.typed))
-    (both (packs_hold packs (length tys)) (is_kind_counted (length tys) kind) h.packed (counts_same (length tys) kind ∙ h.counted))
+    (and_from (are_free scope packs) (is_kind_typed scope tys kind) (free_same scope packs ∙ g) (typed_same scope tys kind ∙ h.typed))
+    (and_from (packs_hold packs (length tys)) (is_kind_counted (length tys) kind) h.packed (counts_same (length tys) kind ∙ h.counted))
 
 -- labels
 
@@ -156,18 +154,14 @@ mutual
 
 -- arguments
 
-or_false : (a : Bool) → (a || false) ≡ a
-or_false true = refl
-or_false false = refl
-
 step_types : (ty : IrType) (tys wanted : List IrType) → same_types (ty ∷ []) wanted ≡ true → same_types tys (drop 1 wanted) ≡ true → same_types (ty ∷ tys) wanted ≡ true
 step_types ty tys [] e f = refl
-step_types ty tys (w ∷ wanted) e f = both (same_type ty w) (same_types tys wanted) (and_parts (same_type ty w) true e).0 f
+step_types ty tys (w ∷ wanted) e f = and_from (same_type ty w) (same_types tys wanted) (and_parts (same_type ty w) true e).0 f
 
 types_step : (ty : IrType) (tys wanted : List IrType) → same_types (ty ∷ tys) wanted ≡ true → (same_types (ty ∷ []) wanted ≡ true) × (same_types tys (drop 1 wanted) ≡ true)
 types_step ty [] [] e = (refl, refl)
 types_step ty (t ∷ tys) [] e = (refl, refl)
-types_step ty tys (w ∷ wanted) e = let p = and_parts (same_type ty w) (same_types tys wanted) e in (both (same_type ty w) true p.0 refl, p.1)
+types_step ty tys (w ∷ wanted) e = let p = and_parts (same_type ty w) (same_types tys wanted) e in (and_from (same_type ty w) true p.0 refl, p.1)
 
 pub args_named : (n : ℕ) (wanted : List IrType) (scope : List Value) (at : Position) (args : List Arg) → OnlySize (args_breaks false n wanted scope at args)
     → NamedArgs (has_name scope) args × (same_types (arg_types args) wanted ≡ true)
@@ -177,7 +171,7 @@ args_named n wanted scope at (arg ∷ args) h =
     let r = only_at at.last (arg_rules false n wanted scope arg) p.0 in
     let t = and_parts (is_free scope arg.name || false) (same_types (arg.ty ∷ []) wanted) r.1 in
     let g = args_named (n + 1) (drop 1 wanted) (scope ++ arg_values at.next (arg ∷ [])) (past 1 0 at) args p.1 in
-    ((sym (or_false (is_free scope arg.name)) ∙ t.0, subst (λ N. NamedArgs N args) (names_called_args scope at.next (arg ∷ [])) g.0), step_types arg.ty (arg_types args) wanted t.1 g.1)
+    ((sym (or-false (is_free scope arg.name)) ∙ t.0, subst (λ N. NamedArgs N args) (names_called_args scope at.next (arg ∷ [])) g.0), step_types arg.ty (arg_types args) wanted t.1 g.1)
 
 pub named_args : (n : ℕ) (wanted : List IrType) (scope : List Value) (at : Position) (args : List Arg) → NamedArgs (has_name scope) args → same_types (arg_types args) wanted ≡ true
     → OnlySize (args_breaks false n wanted scope at args)
@@ -185,7 +179,7 @@ named_args n wanted scope at [] h e = tt
 named_args n wanted scope at (arg ∷ args) h e =
     let t = types_step arg.ty (arg_types args) wanted e in
     append_only (breaks_at at.last (arg_rules false n wanted scope arg)) (args_breaks false (n + 1) (drop 1 wanted) (scope ++ arg_values at.next (arg ∷ [])) (past 1 0 at) args)
-    (at_only at.last (arg_rules false n wanted scope arg) refl (both (is_free scope arg.name || false) (same_types (arg.ty ∷ []) wanted) (or_false (is_free scope arg.name) ∙ h.0) t.0) refl)
+    (at_only at.last (arg_rules false n wanted scope arg) refl (and_from (is_free scope arg.name || false) (same_types (arg.ty ∷ []) wanted) (or-false (is_free scope arg.name) ∙ h.0) t.0) refl)
     (named_args (n + 1) (drop 1 wanted) (scope ++ arg_values at.next (arg ∷ [])) (past 1 0 at) args (subst (λ N. NamedArgs N args) (sym (names_called_args scope at.next (arg ∷ []))) h.1) t.1)
 
 pub args_declared : (n : ℕ) (scope : List Value) (at : Position) (args : List Arg) → OnlySize (args_breaks true n [] scope at args) → NamedDeclared (has_name scope) args
@@ -201,7 +195,7 @@ pub declared_args : (n : ℕ) (scope : List Value) (at : Position) (args : List 
 declared_args n scope at [] h = tt
 declared_args n scope at (arg ∷ args) h =
     append_only (breaks_at at.last (arg_rules true n [] scope arg)) (args_breaks true (n + 1) [] (scope ++ arg_values at.next (arg ∷ [])) (past 1 0 at) args)
-    (at_only at.last (arg_rules true n [] scope arg) refl (both (is_free scope arg.name || length arg.name == 0) true h.0 refl) refl)
+    (at_only at.last (arg_rules true n [] scope arg) refl (and_from (is_free scope arg.name || length arg.name == 0) true h.0 refl) refl)
     (declared_args (n + 1) (scope ++ arg_values at.next (arg ∷ [])) (past 1 0 at) args (subst (λ N. NamedDeclared N args) (sym (names_called_args scope at.next (arg ∷ []))) h.1))
 
 -- terminators

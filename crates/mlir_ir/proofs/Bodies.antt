@@ -11,7 +11,7 @@ use Rattle.mlir_ir.specs.Check.{first, past_ops, results_of, ops_breaks, items_b
 use Rattle.arith_word.specs.Labels.{label_at}
 use Rattle.mlir_ir.specs.Rules.{return_rules}
 use Rattle.mlir_ir.specs.Values.{Value, arg_values}
-use Rattle.mlir_ir.proofs.Steps.{first_append}
+use Rattle.mlir_ir.proofs.ListedBreaks.{first_append}
 
 -- an item's first label is its own, so of the position before it the last label and the operations count
 breaks_alike : (func k : ℕ) (scope : List Value) (p q : Position) (items : List Item) → p.last ≡ q.last → p.ops ≡ q.ops

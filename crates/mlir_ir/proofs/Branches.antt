@@ -1,7 +1,7 @@
 -- A branch of the program as a parse tree.
-use Rattle.std.proofs.Common.{◌≡◌, ℕ, List, [], ◌∷◌, refl, ap, ◌∙◌, sym}
+use Rattle.std.proofs.Common.{◌≡◌, List, refl, ap, ◌∙◌, sym}
 use Rattle.mlir_ir.specs.declared.syntax.Branch.{Branch, Branch', Row_of-Branch, end_of-Branch, more_of-Branch, items-the_row-Branch, out-Branch, items_shown-the_row-Branch-0}
-use Rattle.mlir_ir.specs.Trees.{Forest, none, node, join, put, row_forest, forest}
+use Rattle.mlir_ir.specs.Trees.{Forest, node, put, row_forest, forest}
 
 pub row_forest-items : (n : _) (row : Row_of-Branch n) → row_forest row ≡ forest (items-the_row-Branch n row)
 row_forest-items n end_of-Branch = refl

@@ -28,7 +28,7 @@ use Rattle.mlir_ir.specs.Rules.{arg_types}
 use Rattle.mlir_ir.specs.Values.{Value, arg_values, result_values}
 use Rattle.mlir_ir.specs.Check.{breaks, unless, breaks_at, past, past_args, past_region, past_row, past_kind, past_op, past_ops, past_items, opened, looped, row_ops, kind_ops, ops_ops, op_results, results_of, at_item, in_item, func_begin, is_declaration}
 use Rattle.mlir_ir.specs.Places.{HasFewLabels, Place, place_breaks, args_places, row_places, kind_places, arm_places, before_places, turn_places, ops_places, items_places, body_places, places, DoLabelsFit, DoLabelsRise}
-use Rattle.mlir_ir.proofs.Steps.{past_past}
+use Rattle.mlir_ir.proofs.ListedBreaks.{past_past}
 use Rattle.mlir_ir.proofs.PlaceBreaks.{func_same}
 
 -- numbers from lo up to hi that never fall

@@ -1,17 +1,17 @@
 -- Texts with the functions that they stand for and the breaks that they have, worked out by hand: the definitions compute to these.
 use Rattle.std.proofs.Common.{◌≡◌, ◌+◌, ℕ, List, [], ◌∷◌, refl}
-use Rattle.std.specs.Prelude.{codes, None, Some, true, false}
+use Rattle.std.specs.Prelude.{codes, Some, true, false}
 use Rattle.mlir_ir.specs.Phrases.{Phrase, done, token, line}
 use Rattle.mlir_ir.specs.Operations as plain
-use Rattle.mlir_ir.specs.Resolved.{PlainFunc, funcs_of}
-use Rattle.mlir_ir.specs.ScopeFaults.{Break, text_breaks}
+use Rattle.mlir_ir.specs.Resolved.{funcs_of}
+use Rattle.mlir_ir.specs.ScopeFaults.{text_breaks}
 use Rattle.arith_word.specs.declared.label.Label.{Label}
 use Rattle.arith_word.specs.declared.op.BinOp.TheVariants.{Addi}
 use Rattle.arith_word.specs.declared.op.Pred.TheVariants.{Ne}
 use Rattle.mlir_ir.specs.declared.scope_kind.ScopeKind.TheVariants.{Twice, Unknown, Arity, WrongType}
 use Rattle.mlir_ir.specs.declared.terminal.Terminal.TheVariants as t
 use Rattle.mlir_ir.specs.declared.syntax.Form.TheVariants as f
-use Rattle.mlir_ir.specs.declared.types.IrType.TheVariants.{Int, Index}
+use Rattle.mlir_ir.specs.declared.types.IrType.TheVariants.{Int}
 
 abbrev type_at : ℕ → List ℕ → Phrase → Phrase
 type_at k text rest = line f.TypeName k (token k t.TypeWord text done) rest

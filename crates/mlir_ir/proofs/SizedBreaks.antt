@@ -1,6 +1,5 @@
 -- A region's operations have no break of a limit exactly where they keep the limits.
 use Rattle.std.proofs.Common.{◌≡◌, ℕ, ◌+◌, ◌<◌, ◌≤◌, ◌&&◌, nat_le, nat_lt, Bool, true, false, List, [], ◌∷◌, ◌++◌, length, drop, refl, arith}
-use Rattle.std.proofs.lemmas.Bool.Decides.{nat_tests}
 use Rattle.std.specs.List.{list_all}
 use Rattle.mlir_ir.specs.declared.rules.Nest.{Nest}
 use Rattle.mlir_ir.specs.declared.rules.Position.{Position}
@@ -24,8 +23,7 @@ use Rattle.mlir_ir.specs.Operations as plain
 use Rattle.mlir_ir.specs.Sized.{region_depth, inner_depth, loop_depth, inner_loops, passed_count, SizedArgs, SizedOp, SizedOps, SizedRegions}
 use Rattle.mlir_ir.specs.View.{view_row, view_kind}
 use Rattle.mlir_ir.specs.WellFormed.{NoSize}
-use Rattle.mlir_ir.proofs.TypedScopes.{and_parts}
-use Rattle.mlir_ir.proofs.Agreement.{both}
+use Rattle.std.proofs.lemmas.Bool.{and_from, and_parts, le-leb, leb-true, lt-ltb, ltb-true}
 
 -- no break of a limit
 
@@ -60,18 +58,6 @@ at_no at r e =
     (unless_kept r.sized at e)
 
 -- tests
-
-pub le_of : (a b : ℕ) → nat_le a b ≡ true → a ≤ b
-le_of a b e = grind (arith, nat_tests)
-
-pub of_le : (a b : ℕ) → a ≤ b → nat_le a b ≡ true
-of_le a b h = grind (arith, nat_tests)
-
-pub lt_of : (a b : ℕ) → nat_lt a b ≡ true → a < b
-lt_of a b e = grind (arith, nat_tests)
-
-of_lt : (a b : ℕ) → a < b → nat_lt a b ≡ true
-of_lt a b h = grind (arith, nat_tests)
 
 -- what is left of the limits around operations, and around what stands inside one
 pub record Within (regions loops ops : ℕ) (list : plain.OpList) : Type 0 where
@@ -113,7 +99,7 @@ few_passed regions loops (Bin op flags a b) e = omega arith
 few_passed regions loops (Cast op flags a) e = omega arith
 few_passed regions loops (Cmp pred a b) e = omega arith
 few_passed regions loops (Select c a b) e = omega arith
-few_passed regions loops (Call func ls) e = le_of (length ls) arg_limit e
+few_passed regions loops (Call func ls) e = leb-true (length ls) arg_limit e
 few_passed regions loops (If' c (Region' shape row ends) None') e = omega arith
 few_passed regions loops (If' c (Region' shape row ends) (Some' (Region' shape2 row2 ends2))) e = omega arith
 few_passed regions loops (For (ForParts' lower upper step iv args inits (Region' shape row ends))) e = omega arith
@@ -136,8 +122,8 @@ op_sized scope nest at last packs results kind h =
     let c = and_parts (short && few) room d.0 in
     let b = and_parts short few c.0 in
     record {
-      own = record { short = b.0; few = le_of (length results) result_limit b.1; few_passed = few_passed nest.regions nest.loops kind e.1 };
-      few = lt_of at.ops op_limit c.1;
+      own = record { short = b.0; few = leb-true (length results) result_limit b.1; few_passed = few_passed nest.regions nest.loops kind e.1 };
+      few = ltb-true at.ops op_limit c.1;
       fits = d.1;
       opens = e.1;
     }
@@ -149,8 +135,8 @@ sized_op scope nest at last packs results kind h =
     let few = nat_le (length results) result_limit in
     let room = nat_lt at.ops op_limit in
     at_no last (op_rules scope nest at packs results kind)
-    (both (short && few && room && nest.item_fits) (is_kind_sized nest.regions nest.loops kind)
-    (both (short && few && room) nest.item_fits (both (short && few) room (both short few h.own.short (of_le (length results) result_limit h.own.few)) (of_lt at.ops op_limit h.few)) h.fits) h.opens)
+    (and_from (short && few && room && nest.item_fits) (is_kind_sized nest.regions nest.loops kind)
+    (and_from (short && few && room) nest.item_fits (and_from (short && few) room (and_from short few h.own.short (le-leb (length results) result_limit h.own.few)) (lt-ltb at.ops op_limit h.few)) h.fits) h.opens)
 
 -- arguments
 
@@ -160,9 +146,9 @@ few_args declared n wanted scope at [] l h = (refl, omega arith)
 few_args declared n wanted scope at (arg ∷ args) l h =
     let p = no_append (breaks_at at.last (arg_rules declared n wanted scope arg)) (args_breaks declared (n + 1) (drop 1 wanted) (scope ++ arg_values at.next (arg ∷ [])) (past 1 0 at) args) h in
     let s = and_parts (is_short arg.name) (nat_lt n arg_limit) (no_at at.last (arg_rules declared n wanted scope arg) p.0) in
-    let m : n < arg_limit = lt_of n arg_limit s.1 in
+    let m : n < arg_limit = ltb-true n arg_limit s.1 in
     let g = few_args declared (n + 1) (drop 1 wanted) (scope ++ arg_values at.next (arg ∷ [])) (past 1 0 at) args (omega arith) p.1 in
-    (both (is_short arg.name) (list_all (λ (arg : Arg). is_short arg.name) args) s.0 g.0, omega (arith, g.1))
+    (and_from (is_short arg.name) (list_all (λ (arg : Arg). is_short arg.name) args) s.0 g.0, omega (arith, g.1))
 
 args_few : (declared : Bool) (n : ℕ) (wanted : List IrType) (scope : List Value) (at : Position) (args : List Arg) → list_all (λ (arg : Arg). is_short arg.name) args ≡ true → n + length args ≤ arg_limit
     → NoSize (args_breaks declared n wanted scope at args)
@@ -170,7 +156,7 @@ args_few declared n wanted scope at [] e l = tt
 args_few declared n wanted scope at (arg ∷ args) e l =
     let s = and_parts (is_short arg.name) (list_all (λ (arg : Arg). is_short arg.name) args) e in
     append_no (breaks_at at.last (arg_rules declared n wanted scope arg)) (args_breaks declared (n + 1) (drop 1 wanted) (scope ++ arg_values at.next (arg ∷ [])) (past 1 0 at) args)
-    (at_no at.last (arg_rules declared n wanted scope arg) (both (is_short arg.name) (nat_lt n arg_limit) s.0 (of_lt n arg_limit (omega arith))))
+    (at_no at.last (arg_rules declared n wanted scope arg) (and_from (is_short arg.name) (nat_lt n arg_limit) s.0 (lt-ltb n arg_limit (omega arith))))
     (args_few declared (n + 1) (drop 1 wanted) (scope ++ arg_values at.next (arg ∷ [])) (past 1 0 at) args s.1 (omega arith))
 
 pub args_sized : (declared : Bool) (wanted : List IrType) (scope : List Value) (at : Position) (args : List Arg) → NoSize (args_breaks declared 0 wanted scope at args) → SizedArgs args
@@ -182,7 +168,7 @@ sized_args declared wanted scope at args h = args_few declared 0 wanted scope at
 -- operations
 
 pub opens_loop : (regions loops : ℕ) → (nat_lt regions region_limit && nat_lt loops loop_limit) ≡ true → (regions < region_limit) × (loops < loop_limit)
-opens_loop regions loops e = let p = and_parts (nat_lt regions region_limit) (nat_lt loops loop_limit) e in (lt_of regions region_limit p.0, lt_of loops loop_limit p.1)
+opens_loop regions loops e = let p = and_parts (nat_lt regions region_limit) (nat_lt loops loop_limit) e in (ltb-true regions region_limit p.0, ltb-true loops loop_limit p.1)
 
 mutual
   unfolding row_breaks kind_breaks arm_breaks else_breaks for_breaks while_breaks before_breaks turn_breaks
@@ -219,7 +205,7 @@ mutual
   kind_within scope nest at r l o results (Select c a b) e h = record { few_ops = omega arith; few_regions = omega arith; few_loops = omega arith; inside = tt }
   kind_within scope nest at r l o results (Call func ls) e h = record { few_ops = omega arith; few_regions = omega arith; few_loops = omega arith; inside = tt }
   kind_within scope nest at r l o results (If' c (Region' shape row ends) None') e h =
-      let opens : nest.regions < region_limit = lt_of nest.regions region_limit e in
+      let opens : nest.regions < region_limit = ltb-true nest.regions region_limit e in
       let a = no_append (arm_breaks scope (opened nest) at results (Region' shape row ends)) [] h in
       let g = row_within scope (opened nest) at (omega arith) l o _ row (no_append (row_breaks scope (opened nest) at row) _ a.0).0 in
       record {
@@ -229,7 +215,7 @@ mutual
         inside = (g.inside, tt);
       }
   kind_within scope nest at r l o results (If' c (Region' shape row ends) (Some' (Region' shape2 row2 ends2))) e h =
-      let opens : nest.regions < region_limit = lt_of nest.regions region_limit e in
+      let opens : nest.regions < region_limit = ltb-true nest.regions region_limit e in
       let at2 = past_region (Region' shape row ends) at in
       let a = no_append (arm_breaks scope (opened nest) at results (Region' shape row ends)) (arm_breaks scope (opened nest) at2 results (Region' shape2 row2 ends2)) h in
       let g = row_within scope (opened nest) at (omega arith) l o _ row (no_append (row_breaks scope (opened nest) at row) _ a.0).0 in
@@ -291,10 +277,10 @@ mutual
 -- and back
 
 opened_if : (regions depth : ℕ) → regions + (1 + depth) ≤ region_limit → nat_lt regions region_limit ≡ true
-opened_if regions depth h = of_lt regions region_limit (omega arith)
+opened_if regions depth h = lt-ltb regions region_limit (omega arith)
 
 opened_loop : (regions loops depth inner : ℕ) → regions + (1 + depth) ≤ region_limit → loops + (1 + inner) ≤ loop_limit → (nat_lt regions region_limit && nat_lt loops loop_limit) ≡ true
-opened_loop regions loops depth inner h g = both (nat_lt regions region_limit) (nat_lt loops loop_limit) (of_lt regions region_limit (omega arith)) (of_lt loops loop_limit (omega arith))
+opened_loop regions loops depth inner h g = and_from (nat_lt regions region_limit) (nat_lt loops loop_limit) (lt-ltb regions region_limit (omega arith)) (lt-ltb loops loop_limit (omega arith))
 
 within_opens : (regions loops ops : ℕ) (kind : Kind) → WithinKind regions loops ops (view_kind kind) → passed_count (view_kind kind) ≤ arg_limit → is_kind_sized regions loops kind ≡ true
 within_opens regions loops ops (Const v) h l = refl
@@ -302,7 +288,7 @@ within_opens regions loops ops (Bin op flags a b) h l = refl
 within_opens regions loops ops (Cast op flags a) h l = refl
 within_opens regions loops ops (Cmp pred a b) h l = refl
 within_opens regions loops ops (Select c a b) h l = refl
-within_opens regions loops ops (Call func ls) h l = of_le (length ls) arg_limit l
+within_opens regions loops ops (Call func ls) h l = le-leb (length ls) arg_limit l
 within_opens regions loops ops (If' c (Region' shape row ends) None') h l = opened_if regions _ h.few_regions
 within_opens regions loops ops (If' c (Region' shape row ends) (Some' (Region' shape2 row2 ends2))) h l = opened_if regions _ h.few_regions
 within_opens regions loops ops (For (ForParts' lower upper step iv args inits (Region' shape row ends))) h l = opened_loop regions loops _ _ h.few_regions h.few_loops

@@ -19,10 +19,10 @@ use Rattle.mlir_ir.specs.View.{view_kind, view_ops, view_items}
 use Rattle.mlir_ir.specs.WellFormed.{IsTyped, IsNamed, IsSized, IsSizedBody, OnlySize, NoSize}
 use Rattle.mlir_ir.specs.Within.{ops_labels_within}
 use Rattle.mlir_ir.proofs.WithinRegions.{ops_whole, ops_uncut}
-use Rattle.mlir_ir.proofs.Agreement.{both, inner_same}
-use Rattle.mlir_ir.proofs.TypedScopes.{and_parts}
+use Rattle.mlir_ir.proofs.Agreement.{inner_same}
 use Rattle.mlir_ir.proofs.TypedFunctions.{func_forth, func_back}
-use Rattle.mlir_ir.proofs.SizedBreaks.{no_append, append_no, no_at, at_no, le_of, of_le, Within, inner_count_same, op_sized, sized_op, kind_within, within_kind, within_first, within_op, args_sized, sized_args}
+use Rattle.mlir_ir.proofs.SizedBreaks.{no_append, append_no, no_at, at_no, Within, inner_count_same, op_sized, sized_op, kind_within, within_kind, within_first, within_op, args_sized, sized_args}
+use Rattle.std.proofs.lemmas.Bool.{and_from, and_parts, le-leb, leb-true}
 
 pub ops_labels_same : (ops : List Op) → ops_labels ops ≡ plain.labels_of (view_ops ops)
 ops_labels_same [] = refl
@@ -81,7 +81,7 @@ item_fits scope nest at (op ∷ ops) h =
 few_labels : (k : ℕ) (item : Item) → ops_labels_within (region_limit - 1) item.ops ≡ ops_labels item.ops → (ops_labels item.ops ≡ 0) ⊎ ((in_item k item).item_fits ≡ true) → ops_labels item.ops ≤ label_limit
 few_labels k item w (inl e) = omega arith
 few_labels k item w (inr e) =
-    let l = le_of (ops_labels_within (region_limit - 1) item.ops) label_limit (and_parts (nat_le k item_limit) (nat_le (ops_labels_within (region_limit - 1) item.ops) label_limit) e).1 in
+    let l = leb-true (ops_labels_within (region_limit - 1) item.ops) label_limit (and_parts (nat_le k item_limit) (nat_le (ops_labels_within (region_limit - 1) item.ops) label_limit) e).1 in
     omega arith
 
 -- an item without a break of a limit keeps the limit of labels
@@ -122,7 +122,7 @@ sized_items func k scope at (item ∷ items) n o h =
     let deep = i.regions in
     let w : ops_labels_within (region_limit - 1) item.ops ≡ ops_labels item.ops = ops_whole (region_limit - 1) item.ops (omega arith) in
     let f : (in_item k item).item_fits ≡ true =
-    both (nat_le k item_limit) (nat_le (ops_labels_within (region_limit - 1) item.ops) label_limit) (of_le k item_limit (omega arith)) (of_le (ops_labels_within (region_limit - 1) item.ops) label_limit (omega arith)) in
+    and_from (nat_le k item_limit) (nat_le (ops_labels_within (region_limit - 1) item.ops) label_limit) (le-leb k item_limit (omega arith)) (le-leb (ops_labels_within (region_limit - 1) item.ops) label_limit (omega arith)) in
     let v : Within 1 0 at.ops (view_ops item.ops) = record { few_ops = omega arith; few_regions = i.regions; few_loops = omega (arith, i.loops); inside = i.inside } in
     append_no (ops_breaks scope (in_item k item) (at_item func k at) item.ops) (items_breaks func (k + 1) (scope ++ results_of (label_at func k 0) item.ops) (past_ops item.ops (at_item func k at)) items)
     (within_ops scope (in_item k item) (at_item func k at) f item.ops v)
@@ -141,7 +141,7 @@ body_sized f (Some body) h =
     let begin = past_args f.args (func_begin f) in
     let d = no_append (items_breaks f.index 1 scope begin body.items) _ h in
     let r = no_at _ (return_rules (outer_values f body.items) f.results (length body.items) body.ret) d.1 in
-    let few : length body.items ≤ item_limit = le_of (length body.items) item_limit r in
+    let few : length body.items ≤ item_limit = leb-true (length body.items) item_limit r in
     let g = items_sized f.index 1 scope begin body.items (omega arith) d.0 in
     record { few = rw (items_length body.items) few; few_ops = omega (arith, g.1); inside = g.0 }
 
@@ -153,7 +153,7 @@ sized_body f (Some body) h =
     let rules = return_rules (outer_values f body.items) f.results (length body.items) body.ret in
     let few : length body.items ≤ item_limit = rw (← items_length body.items) h.few in
     append_no (items_breaks f.index 1 scope begin body.items) (breaks_at (past_items f.index 1 body.items begin).last rules) (sized_items f.index 1 scope begin body.items (omega arith) (omega (arith, h.few_ops)) h.inside)
-    (at_no (past_items f.index 1 body.items begin).last rules (of_le (length body.items) item_limit few))
+    (at_no (past_items f.index 1 body.items begin).last rules (le-leb (length body.items) item_limit few))
 
 pub func_sized : (f : Func) → NoSize (breaks f) → IsSized f
 func_sized f h =
@@ -162,14 +162,14 @@ func_sized f h =
     let c = no_append (head ++ A) (body_breaks f f.body) h in
     let b = no_append head A c.0 in
     let s = and_parts (is_short f.name) (nat_le (length f.results) result_limit) (no_at (func_begin f).last (head_rules f) b.0) in
-    record { short = s.0; few = le_of (length f.results) result_limit s.1; args_sized = args_sized (is_declaration f.body) [] [] (func_begin f) f.args b.1; inside = body_sized f f.body c.1 }
+    record { short = s.0; few = leb-true (length f.results) result_limit s.1; args_sized = args_sized (is_declaration f.body) [] [] (func_begin f) f.args b.1; inside = body_sized f f.body c.1 }
 
 pub sized_func : (f : Func) → IsSized f → NoSize (breaks f)
 sized_func f h =
     let head = breaks_at (func_begin f).last (head_rules f) in
     let A = args_breaks (is_declaration f.body) 0 [] [] (func_begin f) f.args in
     append_no (head ++ A) (body_breaks f f.body)
-    (append_no head A (at_no (func_begin f).last (head_rules f) (both (is_short f.name) (nat_le (length f.results) result_limit) h.short (of_le (length f.results) result_limit h.few))) (sized_args (is_declaration f.body) [] [] (func_begin f) f.args h.args_sized))
+    (append_no head A (at_no (func_begin f).last (head_rules f) (and_from (is_short f.name) (nat_le (length f.results) result_limit) h.short (le-leb (length f.results) result_limit h.few))) (sized_args (is_declaration f.body) [] [] (func_begin f) f.args h.args_sized))
     (sized_body f f.body h.inside)
 
 -- no break at all

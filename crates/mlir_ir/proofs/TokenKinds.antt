@@ -1,10 +1,10 @@
 -- The first byte of a token determines its kind.
-use Rattle.std.proofs.Common.{◌≡◌, ℕ, Bool, true, false, ◌&&◌, ◌||◌, ◌==◌, List, [], ◌∷◌, refl, ◌∙◌, arith, inl, inr, sym, ap, Option, Some, None, if◌then◌else◌}
+use Rattle.std.proofs.Common.{◌≡◌, ℕ, Bool, true, false, ◌==◌, List, [], ◌∷◌, refl, ◌∙◌, arith, inl, inr, sym, ap, Option, Some, None, if◌then◌else◌}
 use Rattle.std.specs.List.{list_all}
 use Rattle.std.proofs.lemmas.Bool.{and_parts, or_cases, eqb-true}
 use Rattle.std.proofs.lemmas.Bool.Decides.{nat_tests}
-use Rattle.mlir_ir.specs.Names.{is_digit, is_letter, is_name_byte, is_name}
-use Rattle.mlir_ir.specs.Tokens.{begins_word, is_word_byte, is_word, is_decimal, is_hexadecimal, is_led, is_mark, is_mark_byte, is_token, begins}
+use Rattle.mlir_ir.specs.Names.{is_digit, is_name}
+use Rattle.mlir_ir.specs.Tokens.{begins_word, is_word_byte, is_decimal, is_hexadecimal, is_led, is_mark, is_mark_byte, is_token, begins}
 use Rattle.mlir_ir.specs.declared.token.TokenKind.{TokenKind}
 use Rattle.mlir_ir.specs.declared.token.TokenKind.TheVariants.{Word, Value, Symbol, Caret, Pick, Number, Mark}
 

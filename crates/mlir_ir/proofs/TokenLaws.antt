@@ -5,6 +5,7 @@ use Rattle.mlir_ir.specs.Tokens.{behind_gap, is_token, IsFront, NoneBegins, Lexe
 use Rattle.mlir_ir.specs.declared.token.Token.{Token}
 use Rattle.mlir_ir.specs.declared.token.TokenKind.{TokenKind}
 use Rattle.mlir_ir.proofs.TokenKinds.{one_kind, token_begins, no_token}
+use Rattle.std.proofs.Math.Seq.{take-nil}
 
 -- bytes are a token of one kind alone
 pub same_kind : (kind other : TokenKind) (bs : List ℕ) → is_token kind bs ≡ true → is_token other bs ≡ true → kind ≡ other
@@ -34,14 +35,10 @@ one_token at bs t u p q =
 pub no_front : (bs : List ℕ) (kind : TokenKind) (len : ℕ) → NoneBegins bs → IsFront bs kind len → ⊥
 no_front bs kind len none front = both_ways (is_token kind (take len bs)) (none kind len front.within) front.whole
 
-take_nothing : (len : ℕ) → take {A = ℕ} len [] ≡ []
-take_nothing zero = refl
-take_nothing (suc len) = refl
-
 -- no token begins at the end of the text
 no_token_at : (at : ℕ) (bs : List ℕ) (t : Token) → bs ≡ [] → IsTokenAt at bs t → ⊥
 no_token_at at bs t none is =
-    let whole : is_token t.kind [] ≡ true = ap (is_token t.kind) (sym (ap (take (length t.text)) none ∙ take_nothing (length t.text))) ∙ is.front.whole in
+    let whole : is_token t.kind [] ≡ true = ap (is_token t.kind) (sym (ap (take (length t.text)) none ∙ take-nil (length t.text))) ∙ is.front.whole in
     both_ways (is_token t.kind []) (no_token t.kind) whole
 
 pub one_list : (at : ℕ) (bs : List ℕ) (ts us : List Token) (p q : ℕ) (r s : List ℕ)

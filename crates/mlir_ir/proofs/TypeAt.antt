@@ -1,10 +1,9 @@
 -- The type that a label has among arguments and results.
-use Rattle.std.proofs.Common.{◌≡◌, ℕ, ◌+◌, ◌-◌, ◌<◌, ◌≤◌, ◌==◌, true, false, List, [], ◌∷◌, ◌++◌, length, take, drop, get_or, refl, ap, ◌∙◌, sym, arith, Option, Some, None, length-drop, length-take, suc, zero, ◌⊎◌}
-use Rattle.std.proofs.lemmas.Bool.Decides.{nat_tests}
+use Rattle.std.proofs.Common.{◌≡◌, ℕ, ◌+◌, ◌-◌, ◌<◌, ◌≤◌, ◌==◌, List, [], ◌∷◌, ◌++◌, length, take, drop, get_or, refl, ap, ◌∙◌, sym, arith, Option, Some, None, length-drop, length-take, suc, zero, ◌⊎◌}
 use Rattle.std.proofs.lemmas.List.Folds.{find-append}
 use Rattle.std.proofs.lemmas.Option.{slice_get_past, slice_get_read}
 use Rattle.std.proofs.lemmas.Grind.{common_steps}
-use Rattle.std.proofs.lemmas.Bool.{cases_lt}
+use Rattle.std.proofs.lemmas.Bool.{cases_lt, eq-eqb, ne_eqb}
 use Rattle.std.proofs.Math.Logic.{⊎_elim}
 use Rattle.std.specs.Option.{option_or, option_map}
 use Rattle.std.specs.Prelude.{slice_get}
@@ -16,15 +15,6 @@ use Rattle.mlir_ir.specs.Check.{results_of, op_results}
 use Rattle.mlir_ir.specs.Labels.{kind_labels, op_labels}
 use Rattle.mlir_ir.specs.Values.{Value, arg_values, pack_values, result_values, type_at}
 
-above : (a b : ℕ) → b < a → (a == b) ≡ false
-above a b h = grind (arith, nat_tests)
-
-below : (a b : ℕ) → a < b → (a == b) ≡ false
-below a b h = grind (arith, nat_tests)
-
-here : (a b : ℕ) → a ≡ b → (a == b) ≡ true
-here a b h = grind (arith, nat_tests)
-
 map_or : {T U : Type 0} (f : T → U) (a b : Option T) → option_map f (option_or a b) ≡ option_or (option_map f a) (option_map f b)
 map_or f None b = refl
 map_or f (Some x) b = refl
@@ -34,21 +24,21 @@ type_at_append xs ys label = ap (option_map (λ (v : Value). v.ty)) (find-append
 
 pub args_below : (at : ℕ) (args : List Arg) (label : ℕ) → label < at → type_at (arg_values at args) label ≡ None
 args_below at [] label h = refl
-args_below at (arg ∷ args) label h = rw (above at label h) (args_below (at + 1) args label (omega arith))
+args_below at (arg ∷ args) label h = rw (ne_eqb at label (omega arith)) (args_below (at + 1) args label (omega arith))
 
 pub args_at : (at : ℕ) (args : List Arg) (i label : ℕ) → label ≡ at + i → type_at (arg_values at args) label ≡ option_map (λ arg. arg.ty) (slice_get args i)
 args_at at [] i label h = refl
-args_at at (arg ∷ args) zero label h = rw (here at label (omega arith)) refl
-args_at at (arg ∷ args) (suc i) label h = rw (below at label (omega arith)) (args_at (at + 1) args i label (omega arith))
+args_at at (arg ∷ args) zero label h = rw (eq-eqb at label (omega arith)) refl
+args_at at (arg ∷ args) (suc i) label h = rw (ne_eqb at label (omega arith)) (args_at (at + 1) args i label (omega arith))
 
 pack_below : (at : ℕ) (pack : Pack) (place : ℕ) (tys : List IrType) (label : ℕ) → label < at → type_at (pack_values at pack place tys) label ≡ None
 pack_below at pack place [] label h = refl
-pack_below at pack place (ty ∷ tys) label h = rw (above at label h) (pack_below (at + 1) pack (place + 1) tys label (omega arith))
+pack_below at pack place (ty ∷ tys) label h = rw (ne_eqb at label (omega arith)) (pack_below (at + 1) pack (place + 1) tys label (omega arith))
 
 pack_at : (at : ℕ) (pack : Pack) (place : ℕ) (tys : List IrType) (i label : ℕ) → label ≡ at + i → type_at (pack_values at pack place tys) label ≡ slice_get tys i
 pack_at at pack place [] i label h = refl
-pack_at at pack place (ty ∷ tys) zero label h = rw (here at label (omega arith)) refl
-pack_at at pack place (ty ∷ tys) (suc i) label h = rw (below at label (omega arith)) (pack_at (at + 1) pack (place + 1) tys i label (omega arith))
+pack_at at pack place (ty ∷ tys) zero label h = rw (eq-eqb at label (omega arith)) refl
+pack_at at pack place (ty ∷ tys) (suc i) label h = rw (ne_eqb at label (omega arith)) (pack_at (at + 1) pack (place + 1) tys i label (omega arith))
 
 pub result_below : (at : ℕ) (packs : List Pack) (tys : List IrType) (label : ℕ) → label < at → type_at (result_values at packs tys) label ≡ None
 result_below at [] tys label h = refl

@@ -13,10 +13,7 @@ use Rattle.mlir_ir.specs.Values.{Value, arg_values, pack_values, result_values, 
 use Rattle.mlir_ir.specs.Typed.{typed_from, with_types}
 use Rattle.mlir_ir.specs.Named.{with_packs, with_args}
 use Rattle.mlir_ir.proofs.TypeAt.{type_at_append}
-
-pub and_parts : (a b : Bool) → (a && b) ≡ true → (a ≡ true) × (b ≡ true)
-and_parts true b e = (refl, e)
-and_parts false b e = cc
+use Rattle.std.proofs.lemmas.Bool.{and_parts}
 
 pick : (b : Bool) (v : Value) (o : Option Value) → option_map (λ (x : Value). x.ty) (cond b (Some v) o) ≡ cond b (Some v.ty) (option_map (λ (x : Value). x.ty) o)
 pick true v o = refl

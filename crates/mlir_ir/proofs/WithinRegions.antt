@@ -18,11 +18,12 @@ use Rattle.mlir_ir.specs.Rules.{is_kind_sized, op_rules, arg_types}
 use Rattle.mlir_ir.specs.Values.{Value, arg_values, result_values}
 use Rattle.mlir_ir.specs.Check.{first, breaks_at, past, past_args, past_region, past_op, opened as open_if, looped, kind_ops, op_results, args_breaks, row_breaks, kind_breaks, arm_breaks, else_breaks, for_breaks, while_breaks, before_breaks, turn_breaks, op_breaks, ops_breaks}
 use Rattle.mlir_ir.specs.WellFormed.{NoSize}
-use Rattle.mlir_ir.proofs.SizedBreaks.{no_append, op_sized, lt_of, opens_loop}
-use Rattle.mlir_ir.proofs.Steps.{first_none, ops_labels_append}
+use Rattle.mlir_ir.proofs.SizedBreaks.{no_append, op_sized, opens_loop}
+use Rattle.mlir_ir.proofs.ListedBreaks.{first_none, ops_labels_append}
 use Rattle.mlir_ir.specs.Within.{region_labels_within, row_labels_within, kind_labels_within, opened_labels, op_labels_within, ops_labels_within, while_labels_within}
 use Rattle.mlir_ir.specs.Sized.{region_depth, inner_depth}
 use Rattle.mlir_ir.specs.View.{view_row, view_kind, view_ops}
+use Rattle.std.proofs.lemmas.Bool.{ltb-true}
 
 within_items : (room : ℕ) (n : _) (row : Row_of-Op n) → row_labels_within room row ≡ ops_labels_within room (items-the_row-Op n row)
 within_items room n end_of-Op = refl
@@ -88,7 +89,7 @@ kind_room regions loops (Cmp pred a b) e = closed (region_limit - regions) 0 0 r
 kind_room regions loops (Select c a b) e = closed (region_limit - regions) 0 0 refl refl
 kind_room regions loops (Call func ls) e = closed (region_limit - regions) 0 0 refl refl
 kind_room regions loops (If' c first other) e =
-    let l : regions < region_limit = lt_of regions region_limit e in
+    let l : regions < region_limit = ltb-true regions region_limit e in
     opened (region_limit - regions) _ _ (omega arith) (ap (λ room. opened_labels room (If' c first other)) (room_less regions))
 kind_room regions loops (For parts) e =
     let l : regions < region_limit = (opens_loop regions loops e).0 in

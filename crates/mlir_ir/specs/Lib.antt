@@ -24,9 +24,12 @@ pub mod WellFormed
 pub mod Places
 pub mod Within
 pub mod Runs
+pub mod RunPrefixes
 pub mod GrammarNumbers
 pub mod Phrases
 pub mod Source
 pub mod Resolved
 pub mod ScopeFaults
 pub mod Reads
+pub mod Searched
+pub mod Loops

@@ -1,5 +1,5 @@
 -- The terminal of the grammar for each token.
-use Rattle.std.specs.Prelude.{ℕ, ◌||◌, ◌&&◌, ◌==◌, nat_le, Bool, true, false, List, [], ◌∷◌, drop, codes, if◌then◌else◌}
+use Rattle.std.specs.Prelude.{ℕ, ◌||◌, ◌&&◌, ◌==◌, nat_le, Bool, false, List, [], ◌∷◌, drop, codes, if◌then◌else◌}
 use Rattle.std.specs.Str.{bytes_eq}
 use Rattle.mlir_ir.specs.Tokens.{is_led, is_next}
 use Rattle.mlir_ir.specs.declared.token.Token.{Token}

@@ -13,7 +13,7 @@ use crate::types::{Arg, IrType};
 
 /// The position past the arguments, or their first break. Their types are those of `wanted`, as far
 /// as that goes; in a declaration names may be missing.
-#[tactic(auto, using(crate::proofs::Steps::next_arg, crate::proofs::Steps::past_past))]
+#[tactic(auto, using(crate::proofs::ListedBreaks::next_arg, crate::proofs::ListedBreaks::past_past))]
 pub(crate) fn check_args<'x>(
     scope: &'x Scope<'x>,
     declared: bool,

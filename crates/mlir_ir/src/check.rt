@@ -110,7 +110,7 @@ impl Func {
     ///
     /// The first [`Shape`]: its fault, and the last label that is given before the place of the
     /// break.
-    #[tactic(auto, using(crate::proofs::Steps::first_append, crate::proofs::Steps::first_none))]
+    #[tactic(auto, using(crate::proofs::ListedBreaks::first_append, crate::proofs::ListedBreaks::first_none))]
     pub fn check(&self) -> Result<(), Shape>
         ensures { MatchResult result (λ _. spec.IsWellFormed self.now) (λ shape. spec.first (spec.breaks self.now) ≡ Some shape) }
     {

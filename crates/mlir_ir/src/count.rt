@@ -48,7 +48,7 @@ fn skip_while(parts: &WhileParts, left: u32) -> Option<u32>
 }
 
 #[cycle(skip)]
-#[tactic(auto, using(crate::proofs::Rows::region_labels_items))]
+#[tactic(auto, using(crate::proofs::RegionItems::region_labels_items))]
 fn skip_region(region: &Region, left: u32) -> Option<u32>
     ensures { MatchOption result (left < region_labels region.now) (λ rest. rest + region_labels region.now ≡ left) }
 {

@@ -4,7 +4,7 @@ ghost use Rattle.mlir_ir.specs.Rules as spec;
 use crate::limits::{ARG_LIMIT, LOOP_LIMIT, REGION_LIMIT};
 use crate::types::{ForParts, Kind, Pack, Region, WhileParts};
 
-#[tactic(auto, using(crate::proofs::Rows::has_yield_ends))]
+#[tactic(auto, using(crate::proofs::RegionItems::has_yield_ends))]
 fn has_yield(region: &Region) -> bool
     ensures { result ≡ spec.has_yield region.now }
 {

@@ -1,7 +1,10 @@
-ghost use Rattle.std.specs.Prelude.{◌≡◌, ◌↔◌};
+ghost use Rattle.std.specs.Prelude.{◌≡◌, ◌↔◌, ℕ, ◌+◌, List};
 ghost use Rattle.std.specs.List.{All};
 ghost use Rattle.mlir_ir.specs.Check.{breaks, IsWellFormed};
 ghost use Rattle.mlir_ir.specs.Places.{place_breaks, places, DoLabelsFit, DoLabelsRise, SeesOnly};
+ghost use Rattle.mlir_ir.specs.Operations.{OpList};
+ghost use Rattle.mlir_ir.specs.RunPrefixes.{IsFrontOf, IsPrefix};
+ghost use Rattle.mlir_ir.specs.Runs.{Binding, Iteration, State, run_of, run_ops, trace_of};
 ghost use Rattle.mlir_ir.specs.Values.{func_values};
 ghost use Rattle.mlir_ir.specs.WellFormed.{IsNamed, IsSized, IsTyped, NoSize, OnlySize};
 ghost use Rattle.mlir_ir.specs.declared.types.Func.{Func};
@@ -26,4 +29,18 @@ pub fn places_of_functions()
     ensures breaks { (f : Func) → place_breaks (places f) ≡ breaks f }
     ensures scopes { (f : Func) → All (SeesOnly (func_values f)) (places f) }
     ensures labels { (f : Func) → DoLabelsFit f → DoLabelsRise (breaks f) }
+{}
+
+/// The calls of a run are recorded in the order in which they begin, and none is taken back: where
+/// operations end or stop, the trace begins with what it was before them.
+pub fn traces_grow()
+    ensures { (ops : OpList) (fuel at : ℕ) (around : List Iteration) (env : List Binding)
+        (s : State) → IsPrefix s.trace (trace_of (run_ops ops fuel at around env s).end) }
+{}
+
+/// On a greater budget a run is the same, or it is one that the lesser budget cut: then its trace
+/// and its reports begin with those of the cut run.
+pub fn budgets_extend_runs()
+    ensures { (f : Func) (args replies : List ℕ) (budget more : ℕ)
+        → IsFrontOf (run_of f args replies budget) (run_of f args replies (budget + more)) }
 {}

@@ -8,9 +8,11 @@ mod count;
 mod counted;
 mod fault;
 mod keeps;
+mod label_laws;
 mod laws;
 pub mod limits;
 mod lookup;
+mod loop_labels;
 mod module;
 mod names;
 mod outer;
@@ -22,13 +24,19 @@ mod shape;
 mod syntax;
 mod terminal;
 mod token;
+mod type_search;
 mod typed;
 mod types;
 mod uses;
 mod walk;
 mod within;
 
-pub use laws::{breaks_of_functions, places_of_functions, well_formed_functions};
+pub use label_laws::labels_of_functions;
+pub use laws::{
+    breaks_of_functions, budgets_extend_runs, places_of_functions, traces_grow,
+    well_formed_functions,
+};
+pub use loop_labels::loops;
 pub use module::Module;
 pub use names::{is_digit, is_letter, is_name, is_name_byte};
 pub use rules::{Nest, Position, Rules};
@@ -37,6 +45,7 @@ pub use shape::{Shape, ShapeFault};
 pub use syntax::{Branch, Form, Syntax};
 pub use terminal::Terminal;
 pub use token::{Token, TokenKind};
+pub use type_search::type_of;
 pub use types::{
     Arg, Body, Flags, ForParts, Func, IrType, Item, Kind, Op, Pack, Region, WhileParts,
 };

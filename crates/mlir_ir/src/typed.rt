@@ -119,7 +119,7 @@ fn gives_cast(scope: &Scope, op: CastOp, label: Label, results: &[IrType]) -> bo
 }
 
 /// Whether the results have the type of that use.
-#[tactic(auto, using(crate::proofs::Pairs::first_given))]
+#[tactic(auto, using(crate::proofs::TypedLabels::first_given))]
 fn gives_type_of(scope: &Scope, label: Label, results: &[IrType]) -> bool
     ensures { result ≡ spec.gives_type_of (scope_values scope.now) label results.now }
 {

@@ -60,7 +60,7 @@ pub(crate) fn agree(scope: &Scope, a: Label, b: Label) -> bool
 }
 
 /// Whether uses have the types that belong to them, as far as both lists go.
-#[tactic(auto, using(crate::proofs::Pairs::no_labels))]
+#[tactic(auto, using(crate::proofs::TypedLabels::no_labels))]
 pub(crate) fn have_types(scope: &Scope, types: &[IrType], labels: &[Label]) -> bool
     ensures { result ≡ spec.have_types (scope_values scope.now) types.now labels.now }
 {
@@ -76,7 +76,7 @@ pub(crate) fn have_types(scope: &Scope, types: &[IrType], labels: &[Label]) -> b
 }
 
 /// Whether first values have the types of their arguments, as far as both lists go.
-#[tactic(auto, using(crate::proofs::Pairs::no_labels))]
+#[tactic(auto, using(crate::proofs::TypedLabels::no_labels))]
 pub(crate) fn have_arg_types(scope: &Scope, args: &[Arg], labels: &[Label]) -> bool
     ensures { result ≡ spec.have_types (scope_values scope.now) (spec.arg_types args.now) labels.now }
 {

@@ -19,7 +19,7 @@ use std::slice;
 
 /// The position past the operations, or their first break.
 #[cycle(walk)]
-#[tactic(auto, using(crate::proofs::Steps::next_op, crate::proofs::Steps::past_ops_more, crate::proofs::Steps::ops_room))]
+#[tactic(auto, using(crate::proofs::ListedBreaks::next_op, crate::proofs::ListedBreaks::past_ops_more, crate::proofs::ListedBreaks::ops_room))]
 pub(crate) fn check_ops<'x>(
     scope: &'x Scope<'x>,
     nest: Nest,
@@ -57,7 +57,7 @@ fn check_op<'x>(
 
 /// The position past what stands inside an operation with these results, or its first break.
 #[cycle(walk)]
-#[tactic(auto, using(crate::proofs::Steps::first_append, crate::proofs::Steps::past_past, crate::proofs::Steps::past_none), unfolding(crate::specs::Check::kind_breaks, crate::specs::Check::else_breaks))]
+#[tactic(auto, using(crate::proofs::ListedBreaks::first_append, crate::proofs::ListedBreaks::past_past, crate::proofs::ListedBreaks::past_none), unfolding(crate::specs::Check::kind_breaks, crate::specs::Check::else_breaks))]
 fn check_kind<'x>(
     scope: &'x Scope<'x>,
     nest: Nest,
@@ -84,7 +84,7 @@ fn check_kind<'x>(
 
 /// A region whose yield gives values of these types.
 #[cycle(walk)]
-#[tactic(auto, using(crate::proofs::Rows::arm_breaks_ops, crate::proofs::Rows::region_labels_items, crate::proofs::Rows::region_ops_items, crate::proofs::Steps::first_append))]
+#[tactic(auto, using(crate::proofs::RegionItems::arm_breaks_ops, crate::proofs::RegionItems::region_labels_items, crate::proofs::RegionItems::region_ops_items, crate::proofs::ListedBreaks::first_append))]
 fn check_arm<'x>(
     scope: &'x Scope<'x>,
     nest: Nest,
@@ -108,7 +108,7 @@ fn check_arm<'x>(
 
 /// A loop behind its counter.
 #[cycle(walk)]
-#[tactic(auto, using(crate::proofs::Rows::for_breaks_parts, crate::proofs::Steps::first_append))]
+#[tactic(auto, using(crate::proofs::RegionItems::for_breaks_parts, crate::proofs::ListedBreaks::first_append))]
 fn check_for<'x>(
     scope: &'x Scope<'x>,
     nest: Nest,
@@ -131,7 +131,7 @@ fn check_for<'x>(
 
 /// A loop behind its counter.
 #[cycle(walk)]
-#[tactic(auto, using(crate::proofs::Rows::while_breaks_parts, crate::proofs::Steps::first_append))]
+#[tactic(auto, using(crate::proofs::RegionItems::while_breaks_parts, crate::proofs::ListedBreaks::first_append))]
 fn check_while<'x>(
     scope: &'x Scope<'x>,
     nest: Nest,
@@ -162,7 +162,7 @@ fn check_while<'x>(
 
 /// The region before a turn, which ends with its condition.
 #[cycle(walk)]
-#[tactic(auto, using(crate::proofs::Rows::before_breaks_ops, crate::proofs::Rows::region_labels_items, crate::proofs::Rows::region_ops_items, crate::proofs::Steps::first_append))]
+#[tactic(auto, using(crate::proofs::RegionItems::before_breaks_ops, crate::proofs::RegionItems::region_labels_items, crate::proofs::RegionItems::region_ops_items, crate::proofs::ListedBreaks::first_append))]
 fn check_before<'x>(
     scope: &'x Scope<'x>,
     nest: Nest,
@@ -187,7 +187,7 @@ fn check_before<'x>(
 
 /// The region of a turn.
 #[cycle(walk)]
-#[tactic(auto, using(crate::proofs::Rows::turn_breaks_ops, crate::proofs::Rows::region_labels_items, crate::proofs::Rows::region_ops_items, crate::proofs::Steps::first_append))]
+#[tactic(auto, using(crate::proofs::RegionItems::turn_breaks_ops, crate::proofs::RegionItems::region_labels_items, crate::proofs::RegionItems::region_ops_items, crate::proofs::ListedBreaks::first_append))]
 fn check_turn<'x>(
     scope: &'x Scope<'x>,
     nest: Nest,

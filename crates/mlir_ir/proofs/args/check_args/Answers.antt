@@ -3,7 +3,7 @@ use Rattle.mlir_ir.specs.Check.{past}
 use Rattle.mlir_ir.specs.Limits.{arg_limit}
 use Rattle.mlir_ir.specs.Scope.{scope_values}
 use Rattle.mlir_ir.specs.Values.{arg_values}
-use Rattle.mlir_ir.proofs.Steps.{next_arg, past_past, found_later, arg_kept}
+use Rattle.mlir_ir.proofs.ListedBreaks.{next_arg, past_past, found_later, arg_kept}
 use Rattle.mlir_ir.proofs.args.check_args.Goals as goal
 
 pub loop-k-preserved : goal.loop-k-preserved

@@ -6,7 +6,7 @@ use Rattle.arith_word.specs.Labels.{label_at}
 use Rattle.mlir_ir.specs.Outer.{KeepsLabels}
 use Rattle.mlir_ir.specs.Values.{arg_values}
 use Rattle.mlir_ir.proofs.Bodies.{item_first, next_item, item_last, body_broken, body_ended}
-use Rattle.mlir_ir.proofs.Steps.{found_here, found_later}
+use Rattle.mlir_ir.proofs.ListedBreaks.{found_here, found_later}
 use Rattle.mlir_ir.proofs.TypeAtTop.{KeepFrom, keep_more, kept_all}
 use Rattle.mlir_ir.proofs.check.check_body.Goals as goal
 

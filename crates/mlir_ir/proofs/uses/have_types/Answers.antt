@@ -1,7 +1,7 @@
 use Rattle.std.proofs.Common.{drop, ◌∙◌, sym}
 use Rattle.std.proofs.lemmas.List.{drop_all}
 use Rattle.mlir_ir.specs.Scope.{scope_values}
-use Rattle.mlir_ir.proofs.Pairs.{no_labels}
+use Rattle.mlir_ir.proofs.TypedLabels.{no_labels}
 use Rattle.mlir_ir.proofs.uses.have_types.Goals as goal
 
 pub returns : goal.returns

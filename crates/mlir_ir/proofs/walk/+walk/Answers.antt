@@ -11,7 +11,7 @@ use Rattle.mlir_ir.specs.declared.types.Arg.{Arg}
 use Rattle.mlir_ir.specs.declared.types.WhileParts.{out-WhileParts}
 use Rattle.mlir_ir.specs.Scope.{scope_values}
 use Rattle.mlir_ir.proofs.WithinRegions.{region_within_items, within_room, whole_more, op_found, kind_found, kind_room, arm_found, before_found, while_within}
-use Rattle.mlir_ir.proofs.Steps.{next_op, past_ops_more, found_here, found_later}
+use Rattle.mlir_ir.proofs.ListedBreaks.{next_op, past_ops_more, found_here, found_later}
 use Rattle.mlir_ir.proofs.walk.+walk.Goals as goal
 
 pub check_arm-check_ops-requires : goal.check_arm-check_ops-requires
