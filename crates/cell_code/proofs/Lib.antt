@@ -1,2 +1,2 @@
-pub mod Counting
-pub mod Few
+pub mod CellCounts
+pub mod FewCells

@@ -7,9 +7,9 @@ use Rattle.scev_tree.specs.Polynomial.{Polynomial, Polynomials, num, ext, Power,
 use Rattle.chrec_algebra.specs.Sum.{IsSum, IsSumIn, IsPlaceSum, AreSumsTo}
 use Rattle.scev_tree.specs.Tree.{polynomials, polynomial_of}
 use Rattle.chrec_algebra.specs.Align.{AreSides}
-use Rattle.scev_tree.proofs.Places.{fits_place, canon_of, under_of, place_of}
-use Rattle.scev_tree.proofs.Rows.{polynomial_of_num}
-use Rattle.scev_tree.proofs.Ends.{snoc_below, snoc_last, canon_snoc, past_list}
+use Rattle.scev_tree.proofs.TreePlaces.{fits_place, canon_of, under_of, place_of}
+use Rattle.scev_tree.proofs.ListedTrees.{polynomial_of_num}
+use Rattle.scev_tree.proofs.GrowingLists.{snoc_below, snoc_last, canon_snoc, past_list}
 
 num_at : (M a b : ℕ) (m : List Power) → 0 < M → coefficient (num ((a + b) % M)) m ≡ (coefficient (num a) m + coefficient (num b) m) % M
 num_at M a b [] some = refl

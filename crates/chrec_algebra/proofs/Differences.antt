@@ -4,12 +4,12 @@ use Rattle.std.proofs.Math.Nat.{add-mul-mod_self_left, mod-eq_of_lt, mod-mod}
 use Rattle.std.proofs.lemmas.Nat.{div-add-mod', mod_below}
 use Rattle.scev_tree.specs.Polynomial.{Polynomial, num, coefficient, IsCanonical, IsScaled}
 use Rattle.scev_tree.specs.Value.{value}
-use Rattle.scev_tree.proofs.Places.{fits}
-use Rattle.scev_tree.proofs.Ends.{zero_coeff}
+use Rattle.scev_tree.proofs.TreePlaces.{fits}
+use Rattle.scev_tree.proofs.GrowingLists.{zero_coeff}
 use Rattle.chrec_algebra.specs.Product.{IsAdded}
 use Rattle.chrec_algebra.specs.Sum.{IsDifference, IsNegated, IsTruncated}
 use Rattle.chrec_algebra.proofs.Products.{add_same}
-use Rattle.chrec_algebra.proofs.Values.{value_sum_at, value_scaled}
+use Rattle.chrec_algebra.proofs.PolynomialValues.{value_sum_at, value_scaled}
 
 -- M - 1 times b is what b lacks to M
 lacking : (M c a b : ℕ) → c + 1 ≡ M → b < M → (a + c * b) % M ≡ (a + (M - b)) % M

@@ -2,7 +2,7 @@
 use Rattle.std.proofs.Common.{◌≡◌, ℕ, suc, ◌≤◌, ◌<◌, arith, max, refl}
 use Rattle.scev_tree.specs.Polynomial.{Polynomial, Polynomials, num, ext, Under}
 use Rattle.chrec_algebra.specs.Align.{AreSides}
-use Rattle.chrec_algebra.proofs.Values.{height, under_height}
+use Rattle.chrec_algebra.proofs.PolynomialValues.{height, under_height}
 
 pub height_of : (x : ℕ) (ps : Polynomials) → height (ext x ps) ≡ suc x
 unfolding height

@@ -6,29 +6,22 @@ use Rattle.arith_word.specs.declared.label.Label.{Label}
 use Rattle.scev_tree.specs.declared.tree.Tree.{Tree, Num, Ext}
 use Rattle.scev_tree.specs.Polynomial.{Polynomial, Polynomials, num, ext, Power, coefficient, place, IsMonomial, Under, IsCanonical, AreCanonical, IsScaled, IsBuilt, variable_of}
 use Rattle.scev_tree.specs.Tree.{polynomials, polynomial_of, EndsZero, Tidy}
-use Rattle.scev_tree.proofs.Ends.{snoc_below, snoc_last, canon_snoc, past_list, zero_coeff, trim_first, trim_last, build_from, build_one}
-use Rattle.scev_tree.proofs.Places.{fits_place, canon_of, under_of}
+use Rattle.scev_tree.proofs.GrowingLists.{snoc_below, snoc_last, canon_snoc, past_list, zero_coeff, trim_first, trim_last, build_from, build_one}
+use Rattle.scev_tree.proofs.TreePlaces.{fits_place, canon_of, under_of}
 use Rattle.scev_tree.specs.Side.{IsSide}
 use Rattle.chrec_algebra.specs.Product.{IsAdded, IsPut}
 use Rattle.chrec_algebra.specs.Onto.{AreAdded, AreFirst, IsAddedIn}
 use Rattle.chrec_algebra.specs.Numbers.{numbers}
-use Rattle.scev_tree.proofs.Rows.{polynomial_of_num}
+use Rattle.scev_tree.proofs.ListedTrees.{polynomial_of_num}
 use Rattle.std.proofs.Math.ListN.{set}
-use Rattle.chrec_algebra.proofs.Parts.{put_is, num_added}
+use Rattle.chrec_algebra.proofs.PlacewiseProducts.{put_is, num_added}
+use Rattle.chrec_algebra.proofs.ZeroProducts.{times_zero}
 
 -- ---- the tree of the places
 
 pub place_coeff : (x : ℕ) (ps qs : Polynomials) → ((j : ℕ) (m : List Power) → place ps j m ≡ place qs j m) → (m : List Power) → coefficient (ext x ps) m ≡ coefficient (ext x qs) m
 place_coeff x ps qs h [] = h 0 []
 place_coeff x ps qs h (q ∷ m) = elim (cases_order q.var x) [ inl e ↦ rw (eq-eqb q.var x e) (h q.exp m) | inr ne ↦ rw (ne_eqb q.var x (λ e. elim ne [ inl l ↦ omega arith | inr g ↦ omega arith ])) (h 0 (q ∷ m)) ]
-
-pub not_true : (b : Bool) → not b ≡ true → b ≡ false
-not_true true e = sym e
-not_true false e = refl
-
-pub not_false : (b : Bool) → not b ≡ false → b ≡ true
-not_false true e = refl
-not_false false e = sym e
 
 some_length : (ts : List Tree) → (ts ≡ [] → ⊥) → 0 < length ts
 some_length [] ne = absurd (ne refl)
@@ -104,9 +97,6 @@ added_step M c k t ts old mid new at whole a p = record {
 
 none_added : (M a b : ℕ) → a < M → b ≡ 0 → a ≡ (a + b) % M
 none_added M a b lt e = let h : a + b ≡ a = omega arith in sym (ap (λ n. n % M) h ∙ mod-eq_of_lt lt)
-
-times_zero : (a b : ℕ) → b ≡ 0 → a * b ≡ 0
-times_zero a b e = ap (λ x. a * x) e ∙ omega arith
 
 all_added : (M c n x : ℕ) (ts old new : Polynomials) → 0 < M → ((k : ℕ) (m : List Power) → n ≤ k → place ts k m ≡ 0) → AreCanonical M old x → AreAdded M c n ts old new → (k : ℕ) (m : List Power) (top : ℕ) → IsMonomial m top → place new k m ≡ (place old k m + c * place ts k m) % M
 all_added M c n x ts old new some past co a k m top is = elim (cases_lt k n) [

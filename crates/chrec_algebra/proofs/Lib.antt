@@ -1,5 +1,5 @@
 pub mod Products
-pub mod Values
+pub mod PolynomialValues
 pub mod Splitting
 pub mod UniqueResults
 pub mod ValuesOfLines
@@ -7,12 +7,13 @@ pub mod Replacements
 pub mod ValuesAt
 pub mod Additions
 pub mod Sides
-pub mod Parts
+pub mod PlacewiseProducts
 pub mod Degrees
 pub mod Differences
 pub mod Valuing
 pub mod Entering
-pub mod Factors
+pub mod NumberFactors
+pub mod ZeroProducts
 pub mod NumberChains
 pub mod TableOfBinomials
 pub mod InPlace

@@ -4,7 +4,7 @@ use Rattle.std.proofs.lemmas.Bool.{eq-eqb, ne_eqb, cases_lt, cases_order}
 use Rattle.std.proofs.Math.Nat.{mod-eq_of_lt}
 use Rattle.scev_tree.specs.Polynomial.{Polynomial, Polynomials, num, ext, none, more, Power, power, coefficient, place, IsMonomial, Under, IsNonzero, EndsNonzero, IsCanonical, AreCanonical}
 use Rattle.scev_tree.specs.Tree.{len}
-use Rattle.scev_tree.proofs.Places.{past_end}
+use Rattle.scev_tree.proofs.TreePlaces.{past_end}
 use Rattle.scev_tree.proofs.Unique.{first, later}
 use Rattle.chrec_algebra.specs.Product.{Narrow, NarrowAll}
 use Rattle.chrec_algebra.specs.Places.{AreRisen}

@@ -7,17 +7,17 @@ use Rattle.std.proofs.lemmas.Nat.{mod_below}
 use Rattle.scev_tree.specs.declared.tree.Tree.{Tree}
 use Rattle.scev_tree.specs.Polynomial.{Polynomial, Polynomials, num, ext, Power, coefficient, place, AreCanonical, variable_of}
 use Rattle.scev_tree.specs.Tree.{polynomials, polynomial_of, len}
-use Rattle.scev_tree.proofs.Rows.{len_is}
-use Rattle.scev_tree.proofs.Ends.{past_list, take_snoc}
-use Rattle.scev_tree.proofs.Places.{fits, fits_place, place_of, canon_of}
+use Rattle.scev_tree.proofs.ListedTrees.{len_is}
+use Rattle.scev_tree.proofs.GrowingLists.{past_list, take_snoc}
+use Rattle.scev_tree.proofs.TreePlaces.{fits, fits_place, place_of, canon_of}
 use Rattle.chrec_algebra.specs.Product.{times, product_at, row_factor, IsPut, IsProductPut, IsRow, AreRows, AreProducts}
 use Rattle.chrec_algebra.specs.Numbers.{IsNumber, AreNumbers, numbers, IsNumbersOf}
 use Rattle.chrec_algebra.specs.Places.{AreRisen, row_of_sums}
 use Rattle.chrec_algebra.proofs.Products.{add_same, sum_zero, times_outside}
-use Rattle.chrec_algebra.proofs.Factors.{number_left}
+use Rattle.chrec_algebra.proofs.NumberFactors.{number_left}
 use Rattle.chrec_algebra.proofs.InPlace.{number_place}
 use Rattle.chrec_algebra.proofs.RowsOfProducts.{Gives, gives_symbol, rows_step}
-use Rattle.chrec_algebra.proofs.Parts.{odd_of}
+use Rattle.chrec_algebra.proofs.PlacewiseProducts.{odd_of}
 
 grow : (us : List Tree) (u : Tree) → AreNumbers (polynomials us) → IsNumber (polynomial_of u) → AreNumbers (polynomials (us ++ u ∷ []))
 grow [] u a n = (n, tt)
@@ -54,11 +54,6 @@ pub numbers_past : (vs : List ℕ) (k : ℕ) (m : List Power) → length vs ≤ 
 numbers_past [] k m le = refl
 numbers_past (u ∷ vs) zero m le = absurd (omega arith)
 numbers_past (u ∷ vs) (suc k) m le = numbers_past vs k m (omega arith)
-
-pub numbers_length : (vs : List ℕ) (k v : ℕ) → length (set vs k v) ≡ length vs
-numbers_length [] k v = refl
-numbers_length (u ∷ vs) zero v = refl
-numbers_length (u ∷ vs) (suc k) v = ap suc (numbers_length vs k v)
 
 no_variables : (vs : List ℕ) (k : ℕ) (q : Power) (m : List Power) → place (numbers vs) k (q ∷ m) ≡ 0
 no_variables [] k q m = refl

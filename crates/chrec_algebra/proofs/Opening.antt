@@ -5,12 +5,12 @@ use Rattle.std.proofs.Math.ListN.{set}
 use Rattle.scev_tree.specs.declared.tree.Tree.{Tree}
 use Rattle.scev_tree.specs.Polynomial.{Polynomial, Polynomials, num, ext, Power, coefficient, place, Under, IsCanonical, AreCanonical}
 use Rattle.scev_tree.specs.Tree.{polynomials, polynomial_of}
-use Rattle.scev_tree.proofs.Ends.{snoc_below, snoc_last, past_list, zero_coeff}
-use Rattle.scev_tree.proofs.Places.{places_canon}
+use Rattle.scev_tree.proofs.GrowingLists.{snoc_below, snoc_last, past_list, zero_coeff}
+use Rattle.scev_tree.proofs.TreePlaces.{places_canon}
 use Rattle.chrec_algebra.specs.Product.{AreZeros}
 use Rattle.chrec_algebra.specs.Onto.{AreAdded}
 use Rattle.chrec_algebra.specs.Places.{IsOverlaid, IsOpened}
-use Rattle.chrec_algebra.proofs.Parts.{set_here, set_other, set_canon}
+use Rattle.chrec_algebra.proofs.PlacewiseProducts.{set_here, set_other, set_canon}
 use Rattle.chrec_algebra.proofs.InPlace.{place_coeff}
 
 -- ---- trees are moved to the places that they have

@@ -9,7 +9,8 @@ use Rattle.chrec_algebra.specs.Product.{times, sum_to, product_at, AreProducts}
 use Rattle.scev_tree.specs.Polynomial.{with_power}
 use Rattle.scev_tree.specs.Tree.{len}
 use Rattle.scev_tree.proofs.Unique.{above, raised}
-use Rattle.scev_tree.proofs.Places.{past_end, low_place, high_place}
+use Rattle.scev_tree.proofs.TreePlaces.{past_end, low_place, high_place}
+use Rattle.chrec_algebra.proofs.ZeroProducts.{times_zero, zero_times}
 
 -- ---- sums
 
@@ -112,12 +113,6 @@ same_product M [] top f f' g g' is a b = mul_same M _ _ _ _ (a [] tt) (b [] tt)
 same_product M (q ∷ m) top f f' g g' is a b =
     sum_mod M (suc q.exp) _ _ (λ i li. sum_mod M (suc q.exp) _ _ (λ j lj. mul_same M _ _ _ _ refl
     (same_product M m q.var (λ n. f (with_power q.var i n)) (λ n. f' (with_power q.var i n)) (λ n. g (with_power q.var j n)) (λ n. g' (with_power q.var j n)) is.2 (shift M top q.var i f f' is.0 a) (shift M top q.var j g g' is.0 b))))
-
-times_zero : (a b : ℕ) → b ≡ 0 → a * b ≡ 0
-times_zero a b e = ap (λ x. a * x) e ∙ omega arith
-
-zero_times : (a b : ℕ) → a ≡ 0 → a * b ≡ 0
-zero_times a b e = ap (λ x. x * b) e ∙ omega arith
 
 -- a factor that is 0
 pub none_left : (m : List Power) (f g : List Power → ℕ) → ((n : List Power) → f n ≡ 0) → product_at f g m ≡ 0

@@ -9,18 +9,13 @@ use Rattle.chrec_algebra.specs.Product.{IsAdded, sum_to}
 use Rattle.scev_tree.specs.Polynomial.{with_power}
 use Rattle.scev_tree.specs.Tree.{Each, polynomials, polynomial_of, len}
 use Rattle.chrec_algebra.specs.Place.{insert, Has, IsAt, IsCombined}
-use Rattle.scev_tree.proofs.Rows.{polynomial_of_num, len_is}
+use Rattle.scev_tree.proofs.ListedTrees.{polynomial_of_num, len_is}
 use Rattle.scev_tree.proofs.Unique.{above}
 use Rattle.chrec_algebra.proofs.Products.{add_same, mul_same, sum_zero, sum_same, sum_bound}
-use Rattle.scev_tree.proofs.Places.{past_end, high_place}
-use Rattle.chrec_algebra.proofs.Values.{sum_only}
-use Rattle.scev_tree.proofs.Places.{fits, place_of, under_of}
-
-zero_times : (a b : ℕ) → a ≡ 0 → a * b ≡ 0
-zero_times a b e = ap (λ x. x * b) e ∙ omega arith
-
-times_zero : (a b : ℕ) → b ≡ 0 → a * b ≡ 0
-times_zero a b e = ap (λ x. a * x) e ∙ omega arith
+use Rattle.scev_tree.proofs.TreePlaces.{past_end, high_place}
+use Rattle.chrec_algebra.proofs.PolynomialValues.{sum_only}
+use Rattle.scev_tree.proofs.TreePlaces.{fits, place_of, under_of}
+use Rattle.chrec_algebra.proofs.ZeroProducts.{times_zero, zero_times}
 
 first : (n : ℕ) → binomial n 0 ≡ 1
 unfolding binomial

@@ -9,11 +9,12 @@ use Rattle.scev_binom.specs.Binomial.{product_coefficient}
 use Rattle.scev_tree.specs.declared.tree.Tree.{Tree}
 use Rattle.scev_tree.specs.Polynomial.{Polynomial, Polynomials, Power, with_power, coefficient, place, IsMonomial, Under, IsCanonical, AreCanonical}
 use Rattle.scev_tree.specs.Tree.{len}
-use Rattle.scev_tree.proofs.Places.{fits_place, past_end}
+use Rattle.scev_tree.proofs.TreePlaces.{fits_place, past_end}
 use Rattle.chrec_algebra.specs.Product.{times, sum_to, product_at, IsPut}
 use Rattle.chrec_algebra.specs.Places.{row_of_sums, AreRisen, IsRaised}
 use Rattle.chrec_algebra.proofs.Products.{sum_same, sum_zero, mul_same, same_product, none_right, times_counter}
-use Rattle.chrec_algebra.proofs.Values.{sum_add, sum_times, sum_only}
+use Rattle.chrec_algebra.proofs.PolynomialValues.{sum_add, sum_times, sum_only}
+use Rattle.chrec_algebra.proofs.ZeroProducts.{times_zero, zero_times}
 
 -- ---- rows of numbers
 
@@ -37,12 +38,6 @@ unit_same j = rw (eq-eqb j j refl) refl
 
 unit_other : (b j : ℕ) → (b ≡ j → ⊥) → unit b j ≡ 0
 unit_other b j ne = rw (ne_eqb b j ne) refl
-
-zero_times : (a b : ℕ) → a ≡ 0 → a * b ≡ 0
-zero_times a b e = ap (λ x. x * b) e ∙ omega arith
-
-times_zero : (a b : ℕ) → b ≡ 0 → a * b ≡ 0
-times_zero a b e = ap (λ x. a * x) e ∙ omega arith
 
 -- each number goes with its own share of the row
 shares : (i n : ℕ) (f : ℕ → ℕ) → ((j : ℕ) → n ≤ j → f j ≡ 0) → (j : ℕ) → row_of_sums i f j ≡ sum_to n (λ b. row_of_sums i (unit b) j * f b)

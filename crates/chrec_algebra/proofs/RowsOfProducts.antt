@@ -7,22 +7,20 @@ use Rattle.arith_word.specs.Binomial.{binomial}
 use Rattle.scev_tree.specs.declared.tree.Tree.{Tree}
 use Rattle.scev_tree.specs.Polynomial.{Polynomial, Polynomials, num, ext, Power, coefficient, place, IsMonomial, Under, IsCanonical, AreCanonical, IsBuilt, variable_of}
 use Rattle.scev_tree.specs.Tree.{polynomials, polynomial_of, len}
-use Rattle.scev_tree.proofs.Rows.{len_is}
-use Rattle.scev_tree.proofs.Places.{fits_place, place_of}
-use Rattle.scev_tree.proofs.Ends.{zero_coeff}
+use Rattle.scev_tree.proofs.ListedTrees.{len_is}
+use Rattle.scev_tree.proofs.TreePlaces.{fits_place, place_of}
+use Rattle.scev_tree.proofs.GrowingLists.{zero_coeff}
 use Rattle.chrec_algebra.specs.Align.{AreSides}
 use Rattle.chrec_algebra.specs.Onto.{IsAddedIn}
 use Rattle.chrec_algebra.specs.Places.{AreRisen, IsOpened}
 use Rattle.chrec_algebra.specs.Product.{times, sum_to, product_at, row_factor, IsAdded, IsProduct, AreProducts, IsProductAdded, IsProductAddedIn, IsProductPut, IsRow, AreRows}
 use Rattle.chrec_algebra.proofs.Products.{add_same, mul_same, sum_zero, same_product, times_outside, times_symbol, times_other, plus_same, ext_added, ext_at}
-use Rattle.chrec_algebra.proofs.Values.{sum_only}
-use Rattle.chrec_algebra.proofs.Factors.{number_left, number_right}
-use Rattle.chrec_algebra.proofs.Parts.{set_here, set_other, set_canon, under_here, even_key, odd_of}
+use Rattle.chrec_algebra.proofs.PolynomialValues.{sum_only}
+use Rattle.chrec_algebra.proofs.NumberFactors.{number_left, number_right}
+use Rattle.chrec_algebra.proofs.PlacewiseProducts.{set_here, set_other, set_canon, under_here, even_key, odd_of}
 use Rattle.chrec_algebra.proofs.InPlace.{set_twice}
 use Rattle.chrec_algebra.proofs.Rising.{meets, risen_first, risen_one}
-
-zero_times : (a b : ℕ) → a ≡ 0 → a * b ≡ 0
-zero_times a b e = ap (λ x. x * b) e ∙ omega arith
+use Rattle.chrec_algebra.proofs.ZeroProducts.{zero_times}
 
 -- ---- a factor that is a number
 

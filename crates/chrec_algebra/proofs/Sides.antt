@@ -4,7 +4,7 @@ use Rattle.scev_tree.specs.declared.tree.Tree.{Tree}
 use Rattle.scev_tree.specs.Polynomial.{Polynomial, ext, Under}
 use Rattle.scev_tree.specs.Tree.{polynomials, polynomial_of}
 use Rattle.chrec_algebra.specs.Align.{AreSides}
-pub use Rattle.scev_tree.proofs.Rows.{polynomial_of_ext, polynomial_of_num}
+pub use Rattle.scev_tree.proofs.ListedTrees.{polynomial_of_ext, polynomial_of_num}
 pub use Rattle.scev_tree.proofs.Sides.{side_one, side_ext, side_list, side_places}
 
 pub sides_left : (x : ℕ) (t : Tree) (b : Polynomial) (ts us : List Tree) → ts ≡ t ∷ [] → b ≡ ext x (polynomials us) → Under (polynomial_of t) x → AreSides x (polynomials ts) (polynomials us) (polynomial_of t) b

@@ -4,9 +4,9 @@ use Rattle.std.proofs.lemmas.Bool.{eq-eqb, ne_eqb, cases_order, cases_eq}
 use Rattle.scev_tree.specs.declared.tree.Tree.{Tree, Num}
 use Rattle.scev_tree.specs.Polynomial.{Polynomial, Polynomials, num, ext, none, more, Power, coefficient, place, IsMonomial, Under, IsCanonical, AreCanonical, IsBuilt}
 use Rattle.scev_tree.specs.Tree.{Each, polynomials, polynomial_of}
-use Rattle.scev_tree.proofs.Ends.{zero_coeff, past_list, take_snoc}
-use Rattle.scev_tree.proofs.Places.{high_place, canon_of, under_of, place_of}
-use Rattle.scev_tree.proofs.Rows.{polynomial_of_num, len_is}
+use Rattle.scev_tree.proofs.GrowingLists.{zero_coeff, past_list, take_snoc}
+use Rattle.scev_tree.proofs.TreePlaces.{high_place, canon_of, under_of, place_of}
+use Rattle.scev_tree.proofs.ListedTrees.{polynomial_of_num, len_is}
 use Rattle.scev_tree.proofs.Unique.{above}
 use Rattle.chrec_algebra.specs.Line.{IsLinear, AreLinear, IsPart, IsPartOf, IsPlaceOf}
 use Rattle.chrec_algebra.specs.Place.{insert, Has}

@@ -10,8 +10,8 @@ use Rattle.chrec_algebra.specs.Place.{insert, Has, IsAt}
 use Rattle.scev_tree.specs.Value.{worth, value, with_value}
 use Rattle.scev_tree.proofs.Unique.{raised}
 use Rattle.chrec_algebra.proofs.Products.{mul_same, add_same, sum_mod, sum_same, sum_zero, sum_bound}
-use Rattle.chrec_algebra.proofs.Values.{ev, ev_mod, ev_sum, ev_times, ev_zero, worth_zero, sum_front, value_is, height, under_height, width, wide_width, HasHigh, Wide, WideAll, low_coeff}
-use Rattle.scev_tree.proofs.Values.{worth_other, worth_here}
+use Rattle.chrec_algebra.proofs.PolynomialValues.{ev, ev_mod, ev_sum, ev_times, ev_zero, worth_zero, sum_front, value_is, height, under_height, width, wide_width, HasHigh, Wide, WideAll, low_coeff}
+use Rattle.scev_tree.proofs.ValueSupport.{worth_other, worth_here}
 use Rattle.chrec_algebra.proofs.Replacements.{insert_low, insert_high, var_at_least}
 
 module _ (env : ℕ → ℕ) (M x n e : ℕ) (even : x % 2 ≡ 0) where

@@ -5,15 +5,15 @@ use Rattle.scev_tree.specs.Polynomial.{Polynomial, Polynomials, num, ext, none, 
 use Rattle.scev_tree.specs.Tree.{len}
 use Rattle.scev_tree.specs.Value.{worth, value, with_value}
 use Rattle.scev_tree.proofs.Agreeing.{worth_zero, worth_one}
-use Rattle.scev_tree.proofs.Places.{past_end, high_place}
+use Rattle.scev_tree.proofs.TreePlaces.{past_end, high_place}
 use Rattle.scev_tree.proofs.Unique.{raised}
-use Rattle.scev_tree.proofs.Values.{worth_other}
+use Rattle.scev_tree.proofs.ValueSupport.{worth_other}
 use Rattle.chrec_algebra.specs.Line.{IsLinear, AreLinear, IsLine}
 use Rattle.chrec_algebra.specs.Place.{insert, Has}
 use Rattle.chrec_algebra.specs.Product.{sum_to}
 use Rattle.chrec_algebra.proofs.Products.{sum_same, sum_zero}
 use Rattle.chrec_algebra.proofs.Replacements.{insert_low, insert_high, insert_above, above_places, var_at_least}
-use Rattle.chrec_algebra.proofs.Values.{ev, ev_same, ev_zero, sum_add, sum_times, sum_front, value_is, height, under_height, width, wide_width}
+use Rattle.chrec_algebra.proofs.PolynomialValues.{ev, ev_same, ev_zero, sum_add, sum_times, sum_front, value_is, height, under_height, width, wide_width}
 
 -- ---- coefficients with an index above 1 are 0
 

@@ -9,7 +9,7 @@ use Rattle.scev_tree.specs.Polynomial.{Polynomial, Polynomials, num, ext, variab
 use Rattle.scev_tree.specs.Tree.{polynomial_of, polynomials}
 use Rattle.arith_word.specs.Binomial.{binomial}
 use Rattle.scev_tree.specs.Value.{worth, value, values, numbers}
-use Rattle.scev_tree.proofs.Ends.{take_snoc}
+use Rattle.scev_tree.proofs.GrowingLists.{take_snoc}
 use Rattle.chrec_algebra.proofs.Products.{add_same, mul_same}
 
 pub number_of_counter : (f g : ℕ → ℕ) (l : ℕ) → numbers f g (variable_of true l) ≡ g l

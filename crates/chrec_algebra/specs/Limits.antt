@@ -1,10 +1,17 @@
 -- the limits of what an analysis keeps
-use Rattle.std.specs.Prelude.{◌≤◌}
-use Rattle.chrec_algebra.specs.declared.limits.TheConstants.{MOST_MONOMIALS, GREATEST_DEGREE}
+use Rattle.std.specs.Prelude.{ℕ, ◌≤◌}
 use Rattle.scev_tree.specs.Polynomial.{Polynomial}
 use Rattle.scev_tree.specs.Measure.{monomials, total_degree}
 
--- at most MOST_MONOMIALS monomials, each of a total degree of at most GREATEST_DEGREE
+-- the greatest number of monomials
+abbrev pub monomial_limit : ℕ
+monomial_limit = 64
+
+-- the greatest total degree of a monomial
+abbrev pub degree_limit : ℕ
+degree_limit = 8
+
+-- within both limits
 pub record IsWithin (p : Polynomial) : Type 0 where
-  pub few : monomials p ≤ MOST_MONOMIALS
-  pub low : total_degree p ≤ GREATEST_DEGREE
+  pub few : monomials p ≤ monomial_limit
+  pub low : total_degree p ≤ degree_limit

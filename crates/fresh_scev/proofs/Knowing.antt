@@ -25,9 +25,9 @@ use Rattle.fresh_scev.specs.Linear.{Linear, symbol_expr, is_number}
 use Rattle.fresh_scev.specs.Fresh.{expr_at, with_item, next_label, op_expr, bin_expr, kind_expr, with_result, with_results, with_ops, with_items, arg_exprs, items_of, facts_of}
 use Rattle.fresh_scev.specs.Straight.{holds_no_region, item_holds_no_region, is_straight_line, HaveLabels}
 use Rattle.fresh_scev.proofs.Limits.{limits, packs, HavePacks, ItemsHavePacks}
-use Rattle.fresh_scev.proofs.Places.{expr_at-next, expr_at-next_none, expr_at-other, expr_at-empty, expr_at-nothing}
+use Rattle.fresh_scev.proofs.LabelPlaces.{expr_at-next, expr_at-next_none, expr_at-other, expr_at-empty, expr_at-nothing}
 use Rattle.fresh_scev.proofs.Runners.{no_labels}
-use Rattle.fresh_scev.proofs.Walks.{length-with_result, length-with_results}
+use Rattle.fresh_scev.proofs.FactGrowth.{length-with_result, length-with_results}
 
 pub record Knows (facts : Facts) (vs : List Value) : Type 0 where
   pub at : (label : ℕ) → option_map (λ (e : Linear). e.w) (expr_at facts label) ≡ option_map bits_of (type_at vs label)

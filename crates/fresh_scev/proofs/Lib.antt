@@ -1,11 +1,11 @@
-pub mod Factors
+pub mod TermFactors
 pub mod Merge
-pub mod Numbers
-pub mod Walks
+pub mod WidthNumbers
+pub mod FactGrowth
 pub mod Limits
 pub mod Totals
-pub mod Places
+pub mod LabelPlaces
 pub mod Runs
 pub mod Runners
 pub mod Knowing
-pub mod Rows
+pub mod FactTable

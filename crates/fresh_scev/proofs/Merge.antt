@@ -7,7 +7,7 @@ use Rattle.std.proofs.lemmas.Nat.{pow_pos}
 use Rattle.std.specs.List.{AllByRecursion}
 use Rattle.fresh_scev.specs.declared.expr.Term.{Term}
 use Rattle.fresh_scev.specs.Linear.{factor_of, AreAbove, IsCanonical, term_of, terms_of}
-use Rattle.fresh_scev.proofs.Factors.{above_more, given, factor_of-least, term_of-some, terms_from-same}
+use Rattle.fresh_scev.proofs.TermFactors.{above_more, given, factor_of-least, term_of-some, terms_from-same}
 
 factor_of-append : (xs ys : List Term) (x : ℕ) → factor_of (xs ++ ys) x ≡ factor_of xs x + factor_of ys x
 factor_of-append [] ys x = omega arith

@@ -21,9 +21,9 @@ use Rattle.fresh_scev.specs.Straight.{holds_no_region, item_holds_no_region, is_
 use Rattle.fresh_scev.specs.Values.{value}
 use Rattle.fresh_scev.proofs.Limits.{limits}
 use Rattle.arith_word.proofs.Labels.{label_parts}
-use Rattle.fresh_scev.proofs.Places.{found, expr_at-new, placed}
+use Rattle.fresh_scev.proofs.LabelPlaces.{found, expr_at-new, placed}
 use Rattle.fresh_scev.proofs.Runs.{Holds, IsValue, is_symbol, is_kind}
-use Rattle.fresh_scev.proofs.Walks.{length-with_result, length-with_results}
+use Rattle.fresh_scev.proofs.FactGrowth.{length-with_result, length-with_results}
 
 holds_more : (env : ℕ → ℕ) (facts : Facts) (here : List Linear) (e : Linear) → Holds env (with_item facts here) → IsValue env (next_label facts here) e → Holds env (with_item facts (here ++ e ∷ []))
 holds_more env facts here e known given = record {

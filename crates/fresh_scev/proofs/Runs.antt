@@ -12,7 +12,7 @@ use Rattle.fresh_scev.specs.Linear.{Linear, IsReduced, is_number, number_expr, s
 use Rattle.fresh_scev.specs.Fresh.{expr_at, op_expr, bin_expr, kind_expr}
 use Rattle.fresh_scev.specs.Values.{total, value}
 use Rattle.fresh_scev.specs.Run.{Gives, IsComputed}
-use Rattle.fresh_scev.proofs.Numbers.{one_below}
+use Rattle.fresh_scev.proofs.WidthNumbers.{one_below}
 use Rattle.fresh_scev.proofs.Totals.{Same, same_add, same_times, same_mod, value_number, value_symbol, value_sum, value_difference, value_multiple, canonical_of}
 use Rattle.std.specs.Option.{unwrap_or}
 

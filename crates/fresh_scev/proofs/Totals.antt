@@ -6,7 +6,7 @@ use Rattle.std.proofs.lemmas.Nat.{pow_pos, mul-mod_first, mul-mod_second}
 use Rattle.fresh_scev.specs.declared.expr.Term.{Term}
 use Rattle.fresh_scev.specs.Linear.{Linear, factor_of, AreAbove, IsCanonical, IsReduced, term_of, terms_from, terms_of, number_expr, symbol_expr, sum, difference, multiple}
 use Rattle.fresh_scev.specs.Values.{total, value}
-use Rattle.fresh_scev.proofs.Factors.{from_own, all_within, factor_of-least, terms_from-same}
+use Rattle.fresh_scev.proofs.TermFactors.{from_own, all_within, factor_of-least, terms_from-same}
 
 -- the sum of g over so many numbers from `first` on
 unfoldable sigma : ℕ → ℕ → (ℕ → ℕ) → ℕ

@@ -133,7 +133,7 @@ fn item_exprs(alloc: Global, facts: &Facts, item: &Item) -> Result<Items<Expr>, 
 }
 
 /// The symbols of a function's arguments.
-#[tactic(auto, using(crate::proofs::Walks::args_more))]
+#[tactic(auto, using(crate::proofs::FactGrowth::args_more))]
 fn arg_exprs(alloc: Global, func: u8, args: &[Arg]) -> Result<Items<Expr>, AllocError>
     requires { length args.now ≤ index_count }
     ensures { IfOk result (λ exprs. exprs ≡ fresh.arg_exprs (label_at func 0 0) args.now) }

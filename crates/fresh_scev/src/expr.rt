@@ -33,7 +33,7 @@ impl Model for Expr {
 
 impl Expr {
     /// The number `v`, modulo 2 to the width.
-    #[tactic(auto, using(crate::proofs::Numbers::masked))]
+    #[tactic(auto, using(crate::proofs::WidthNumbers::masked))]
     pub fn number(alloc: Global, w: Width, v: u64) -> Expr
         ensures { result ≡ number_expr w v }
     {
@@ -45,7 +45,7 @@ impl Expr {
     }
 
     /// The symbol.
-    #[tactic(auto, using(crate::proofs::Numbers::one_below))]
+    #[tactic(auto, using(crate::proofs::WidthNumbers::one_below))]
     pub fn symbol(alloc: Global, w: Width, symbol: Label) -> Result<Expr, AllocError>
         ensures { IfOk result (λ e. e ≡ symbol_expr w symbol.0) }
     {

@@ -14,7 +14,7 @@ pub struct Facts {
 }
 
 impl Facts {
-    #[tactic(auto, using(crate::proofs::Walks::none_in))]
+    #[tactic(auto, using(crate::proofs::FactGrowth::none_in))]
     /// The expression of the value; `None` exactly where there is none with that label.
     pub fn expr(&self, v: Label) -> Option<&Expr>
         ensures { option_copied result ≡ expr_at self.now v.0 }

@@ -1,23 +1,13 @@
 -- The bytes of a token are ASCII.
-use Rattle.std.proofs.Common.{suc, zero, ◌≡◌, ℕ, ◌<◌, Bool, true, false, ◌&&◌, ◌==◌, nat_lt, List, [], ◌∷◌, take, refl, ap, sym, ◌∙◌, arith, inl, inr, get_or, IsUtf8}
+use Rattle.std.proofs.Common.{◌≡◌, ℕ, Bool, true, ◌&&◌, ◌==◌, List, [], ◌∷◌, take, refl, ap, ◌∙◌, arith, inl, inr, IsUtf8}
 use Rattle.std.specs.List.{list_all}
-use Rattle.std.proofs.lemmas.Bool.{cases_Bool, and_from, and_parts, or_cases, eqb-true, ltb-true}
+use Rattle.std.proofs.lemmas.Bool.{and_from, and_parts, or_cases, eqb-true}
 use Rattle.std.proofs.lemmas.Bool.Decides.{nat_tests}
-use Rattle.std.proofs.lemmas.Str.{IsUtf8-from_ascii}
-use Rattle.mlir_ir.specs.Names.{is_digit, is_name_byte, is_name}
+use Rattle.mlir_ir.specs.Names.{is_digit, is_name}
+use Rattle.mlir_ir.proofs.AsciiNames.{is_low, all_low, digit_low, name_all_low, low_utf8}
 use Rattle.mlir_ir.specs.Tokens.{begins_word, is_word_byte, is_word, is_hex_digit, is_decimal, is_hexadecimal, is_led, is_mark, is_mark_byte, is_token, IsFront}
 use Rattle.mlir_ir.specs.declared.token.TokenKind.{TokenKind}
 use Rattle.mlir_ir.specs.declared.token.TokenKind.TheVariants.{Word, Value, Symbol, Caret, Pick, Number, Mark}
-
-abbrev is_low : ℕ → Bool
-is_low b = nat_lt b 128
-
--- bytes that pass a test which only ASCII bytes pass
-all_low : (p : ℕ → Bool) → ((b : ℕ) → p b ≡ true → is_low b ≡ true) → (bs : List ℕ) → list_all p bs ≡ true → list_all is_low bs ≡ true
-all_low p low [] all = refl
-all_low p low (b ∷ bs) all =
-    let parts = and_parts (p b) (list_all p bs) all in
-    and_from (is_low b) (list_all is_low bs) (low b parts.0) (all_low p low bs parts.1)
 
 word_low : (b : ℕ) → is_word_byte b ≡ true → is_low b ≡ true
 word_low b is = grind (arith, nat_tests)
@@ -25,14 +15,8 @@ word_low b is = grind (arith, nat_tests)
 first_low : (b : ℕ) → begins_word b ≡ true → is_low b ≡ true
 first_low b is = grind (arith, nat_tests)
 
-digit_low : (b : ℕ) → is_digit b ≡ true → is_low b ≡ true
-digit_low b is = grind (arith, nat_tests)
-
 hex_low : (b : ℕ) → is_hex_digit b ≡ true → is_low b ≡ true
 hex_low b is = grind (arith, nat_tests)
-
-name_low : (b : ℕ) → is_name_byte b ≡ true → is_low b ≡ true
-name_low b is = grind (arith, nat_tests)
 
 mark_low : (b : ℕ) → is_mark_byte b ≡ true → is_low b ≡ true
 mark_low b is = grind (arith, nat_tests)
@@ -43,17 +27,6 @@ led_low lead passes low rest [] is = refl
 led_low lead passes low rest (b ∷ bs) is =
     let parts = and_parts (b == lead) (passes bs) is in
     and_from (is_low b) (list_all is_low bs) (ap is_low (eqb-true b lead parts.0) ∙ low) (rest bs parts.1)
-
-name_all_low : (bs : List ℕ) → is_name bs ≡ true → list_all is_low bs ≡ true
-name_all_low [] is = refl
-name_all_low (b ∷ bs) is =
-    elim (cases_Bool (is_digit b)) [
-      | inl digit ↦ and_from (is_low b) (list_all is_low bs) (digit_low b digit) (all_low is_digit digit_low bs (rw digit at is))
-      | inr no_digit ↦ all_low is_name_byte name_low (b ∷ bs) (sym (name_of b bs no_digit) ∙ is)
-    ]
-  where
-    name_of : (b : ℕ) (bs : List ℕ) → is_digit b ≡ false → is_name (b ∷ bs) ≡ list_all is_name_byte (b ∷ bs)
-    name_of b bs no_digit = rw no_digit refl
 
 decimal_low : (bs : List ℕ) → is_decimal bs ≡ true → list_all is_low bs ≡ true
 decimal_low [] is = refl
@@ -90,11 +63,6 @@ token_low Number bs is =
     ]
 token_low Mark bs is = mark_all_low bs is
 
-low_at : (bs : List ℕ) → list_all is_low bs ≡ true → (i : ℕ) → get_or bs i 0 < 128
-low_at [] all i = omega arith
-low_at (b ∷ bs) all zero = ltb-true b 128 (and_parts (is_low b) (list_all is_low bs) all).0
-low_at (b ∷ bs) all (suc i) = low_at bs (and_parts (is_low b) (list_all is_low bs) all).1 i
-
 -- the bytes of a token are UTF-8
 pub token_utf8 : (kind : TokenKind) (bs : List ℕ) (len : ℕ) → IsFront bs kind len → IsUtf8 (take len bs)
-token_utf8 kind bs len front = IsUtf8-from_ascii (take len bs) (low_at (take len bs) (token_low kind (take len bs) front.whole))
+token_utf8 kind bs len front = low_utf8 (take len bs) (token_low kind (take len bs) front.whole)

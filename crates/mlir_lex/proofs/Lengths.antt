@@ -6,7 +6,7 @@ use Rattle.mlir_ir.specs.Names.{is_digit, is_name_byte, is_name}
 use Rattle.mlir_ir.specs.Tokens.{begins_word, is_word_byte, is_word, is_hex_digit, is_decimal, is_hexadecimal, is_led, is_mark, is_mark_byte, is_next, is_token}
 use Rattle.mlir_ir.specs.declared.token.TokenKind.TheVariants.{Word, Number}
 use Rattle.mlir_lex.specs.Longest.{IsLongest}
-use Rattle.mlir_lex.proofs.Runs.{prefix_within, run_passes, past_run}
+use Rattle.mlir_lex.proofs.LongestRuns.{prefix_within, run_passes, past_run}
 
 pub no_name : IsLongest is_name [] 0
 no_name = record { within = omega arith; whole = λ some. absurd (omega arith); longest = λ more beyond within. absurd (omega arith) }

@@ -1,4 +1,4 @@
-pub mod Runs
+pub mod LongestRuns
 pub mod Lengths
 pub mod Fronts
 pub mod Gaps

@@ -10,7 +10,7 @@ use crate::bytes::{begins_word, is_hex_digit, is_mark_byte, is_word_byte};
 use mlir_ir::{TokenKind, is_digit, is_name_byte};
 
 /// The number of leading bytes that a word may have.
-#[tactic(auto, using(crate::proofs::Runs::prefix_within))]
+#[tactic(auto, using(crate::proofs::LongestRuns::prefix_within))]
 fn word_bytes(bytes: &[u8]) -> usize
     ensures value { result ≡ prefix_len text.is_word_byte bytes.now }
     ensures within { result ≤ length bytes.now }
@@ -26,7 +26,7 @@ fn name_bytes(bytes: &[u8]) -> usize
 }
 
 /// The number of leading decimal digits.
-#[tactic(auto, using(crate::proofs::Runs::prefix_within))]
+#[tactic(auto, using(crate::proofs::LongestRuns::prefix_within))]
 fn digits(bytes: &[u8]) -> usize
     ensures value { result ≡ prefix_len names.is_digit bytes.now }
     ensures within { result ≤ length bytes.now }
@@ -35,7 +35,7 @@ fn digits(bytes: &[u8]) -> usize
 }
 
 /// The number of leading hexadecimal digits.
-#[tactic(auto, using(crate::proofs::Runs::prefix_within))]
+#[tactic(auto, using(crate::proofs::LongestRuns::prefix_within))]
 fn hex_digits(bytes: &[u8]) -> usize
     ensures value { result ≡ prefix_len text.is_hex_digit bytes.now }
     ensures within { result ≤ length bytes.now }

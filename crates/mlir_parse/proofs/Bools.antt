@@ -16,10 +16,6 @@ pub and_right : (a b : Bool) → (a && b) ≡ true → b ≡ true
 and_right true b h = h
 and_right false b h = cc
 
-pub cases_of : (b : Bool) → (b ≡ true) ⊎ (b ≡ false)
-cases_of true = inl refl
-cases_of false = inr refl
-
 pub passes : {X : Type 0} (p : X → Bool) (xs : List X) → list_all p xs ≡ true → (n : ℕ) (x : X) → slice_get xs n ≡ Some x → p x ≡ true
 passes p [] h n x e = cc
 passes p (y ∷ ys) h zero x e = let same_item : y ≡ x = cc in rw (← same_item) (and_left (p y) (list_all p ys) h)
@@ -177,10 +173,6 @@ pub enough_true : (p s : Bool) → s ≡ true → (p || s) ≡ true
 enough_true true s h = refl
 enough_true false s h = h
 
-pub both_true : (a b : Bool) → a ≡ true → b ≡ true → (a && b) ≡ true
-both_true true b p q = q
-both_true false b p q = p
-
 pub more_true : (x e p q : Bool) → (q ≡ true → p ≡ true) → (x || (e && q)) ≡ true → (x || (e && p)) ≡ true
 more_true true e p q k h = refl
 more_true false true p q k h = k h
@@ -198,10 +190,6 @@ pub apart : (a b : Bool) → not (a && b) ≡ true → a ≡ true → b ≡ fals
 apart true true h e = cc
 apart true false h e = refl
 apart false b h e = cc
-
-pub not_true : (a : Bool) → not a ≡ true → a ≡ false
-not_true true h = cc
-not_true false h = refl
 
 pub at_number : (c : Terminal) → slice_get terminals (number c) ≡ Some c
 at_number Module = refl

@@ -4,7 +4,8 @@ use Rattle.std.specs.List.{list_all}
 use Rattle.mlir_ir.specs.GrammarNumbers.{same}
 use Rattle.mlir_parse.specs.Tables.{terminals, first, empty, follow, decides}
 use Rattle.mlir_ir.specs.Grammar.{Pattern, nothing, one, line, both, either, many, region, body}
-use Rattle.mlir_parse.proofs.Bools.{every_terminal, every_form, and_left, and_right, more_true, less_false, implied, apart, not_true}
+use Rattle.mlir_parse.proofs.Bools.{every_terminal, every_form, and_left, and_right, more_true, less_false, implied, apart}
+use Rattle.std.proofs.lemmas.Bool.{not-true}
 use Rattle.mlir_parse.proofs.First.{firsts}
 use Rattle.mlir_ir.specs.declared.terminal.Terminal.{Terminal}
 use Rattle.mlir_ir.specs.declared.terminal.Terminal.TheVariants.{RightBrace}
@@ -54,7 +55,7 @@ decided (either a b) p h =
     let w = decides b p in
     let xyz = and_left (x && y && z) w h in
     let xy = and_left (x && y) z xyz in (
-      not_true (empty a) (and_left x y xy),
+      not-true (empty a) (and_left x y xy),
       λ c m. apart (first a c) (first b c || (empty b && p c)) (every_terminal (λ c. not (first a c && (first b c || (empty b && p c)))) (and_right x y xy) c) m,
       decided a p (and_right (x && y) z xyz),
       decided b p (and_right (x && y && z) w h),
@@ -64,7 +65,7 @@ decided (many a) p h =
     let y = list_all (λ c. not (first a c && p c)) terminals in
     let z = decides a (λ c. first a c || p c) in
     let xy = and_left (x && y) z h in (
-      not_true (empty a) (and_left x y xy),
+      not-true (empty a) (and_left x y xy),
       λ c m. apart (first a c) (p c) (every_terminal (λ c. not (first a c && p c)) (and_right x y xy) c) m,
       decided a (λ c. first a c || p c) (and_right (x && y) z h),
     )

@@ -10,7 +10,8 @@ use Rattle.mlir_ir.specs.declared.terminal.Terminal.TheVariants.{LeftBrace, Righ
 use Rattle.mlir_ir.specs.declared.syntax.Form.{Form}
 use Rattle.mlir_parse.specs.declared.fault.Fault.{Fault}
 use Rattle.mlir_parse.specs.declared.fault.Fault.TheVariants.{NoMemory, Syntax, TooDeep}
-use Rattle.mlir_parse.proofs.Bools.{same_is, same_self, cases_of, both_true}
+use Rattle.mlir_parse.proofs.Bools.{same_is, same_self}
+use Rattle.std.proofs.lemmas.Bool.{and_from, cases_Bool}
 use Rattle.mlir_parse.proofs.First.{first_body, empty_body}
 
 -- a run that succeeds leaves fewer tokens where the first token may begin a match, and never more
@@ -53,7 +54,7 @@ leaves_both : (a b : Pattern) (ts us : List Terminal) (o : Outcome) → Leaves a
 leaves_both a b ts us (Done vs) h k = (
   omega (arith, h.0, k.0),
   λ e.
-      elim (cases_of (starts a ts)) [
+      elim (cases_Bool (starts a ts)) [
         | inl p ↦ omega (arith, h.1 p, k.0)
         | inr p ↦ let q = h.2 p in
             let m : starts b ts ≡ true = rest_true (starts a ts) (empty a) (starts b ts) p (sym (starts_both a b ts) ∙ e) in
@@ -68,7 +69,7 @@ leaves_both a b ts us (Done vs) h k = (
       let m : starts b ts ≡ false = rest_false (starts a ts) (empty a) (starts b ts) q.1 none_of in
       let P : List Terminal → Type 0 = λ x. starts b x ≡ false in
       let z = k.2 (subst P (sym q.0) m) in
-      (z.0 ∙ q.0, both_true (empty a) (empty b) q.1 z.1),
+      (z.0 ∙ q.0, and_from (empty a) (empty b) q.1 z.1),
 )
   where
     rest_true : (p e q : Bool) → p ≡ false → (p || (e && q)) ≡ true → q ≡ true

@@ -1,6 +1,7 @@
 -- Sets of terminals as bit masks.
 use Rattle.std.proofs.Common.{zero, suc, ◌≡◌, ℕ, ◌<◌, ◌^◌, ◌==◌, max, Bool, true, false, ◌||◌, ◌&&◌, if◌then◌else◌, List, [], ◌∷◌, refl, ap, ◌∙◌, sym, inl, inr, arith, bit_or}
 use Rattle.std.specs.Int.{bit_at}
+use Rattle.std.proofs.Math.Bool.{or-false}
 use Rattle.std.proofs.lemmas.Nat.Bits.{bit_at_or, bit_at-zero, bit_at-lt, bit_at-pow_same, bit_at-pow_other}
 use Rattle.std.proofs.lemmas.Bool.{cases_Bool, eqb-true, eqb-false}
 use Rattle.mlir_ir.specs.Grammar.{Pattern, nothing, one, line, both, either, many, region}
@@ -33,19 +34,15 @@ has_or a b c =
     one_of (suc zero) (suc (suc y)) h k = absurd (omega (arith, k))
     one_of (suc (suc x)) y h k = absurd (omega (arith, h))
 
-or_false : (b : Bool) → (b || false) ≡ b
-or_false true = refl
-or_false false = refl
-
 has_marks : (ds : List Terminal) (c : Terminal) → has (marks ds) c ≡ among ds c
 has_marks [] c = has_none c
-has_marks (d ∷ []) c = has_or (mark d) 0 c ∙ ap (λ b. has (mark d) c || b) (has_none c) ∙ or_false (has (mark d) c) ∙ has_mark d c
+has_marks (d ∷ []) c = has_or (mark d) 0 c ∙ ap (λ b. has (mark d) c || b) (has_none c) ∙ or-false (has (mark d) c) ∙ has_mark d c
 has_marks (d ∷ e ∷ ds) c =
     has_or (mark d) (marks (e ∷ ds)) c ∙ ap (λ b. b || has (marks (e ∷ ds)) c) (has_mark d c) ∙ ap (λ b. same d c || b) (has_marks (e ∷ ds) c)
 
 has_both : (e : Bool) (m n : ℕ) (c : Terminal) (p q : Bool) → has m c ≡ p → has n c ≡ q → has (if e then bit_or m n else m) c ≡ (p || (e && q))
 has_both true m n c p q h k = has_or m n c ∙ ap (λ b. b || has n c) h ∙ ap (λ b. p || b) k
-has_both false m n c p q h k = h ∙ sym (or_false p)
+has_both false m n c p q h k = h ∙ sym (or-false p)
 
 -- the first set of a pattern has exactly the terminals that a match may begin with
 pub has_first : (r : Pattern) (c : Terminal) → has (first_set r) c ≡ first r c

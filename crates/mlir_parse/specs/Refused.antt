@@ -6,6 +6,8 @@ use Rattle.mlir_ir.specs.Texts.{IsNotHere, IsOtherFault, IsTooDeep}
 use Rattle.mlir_ir.specs.Syntaxes.{place_of}
 use Rattle.mlir_ir.specs.declared.token.Token.{Token}
 use Rattle.mlir_ir.specs.declared.terminal.Terminal.{Terminal}
+use Rattle.mlir_lex.specs.declared.error.LexError.{LexError}
+use Rattle.mlir_lex.specs.declared.error.LexError.TheVariants as lexing
 use Rattle.mlir_parse.specs.declared.parser.ParseFault.{ParseFault}
 use Rattle.mlir_parse.specs.declared.parser.ParseFault.TheVariants.{NoMemory, Lex, Syntax, NotHere, TooDeep}
 
@@ -16,6 +18,11 @@ pub record IsFaultAt (IsFault : List Terminal → ℕ → Type 0) (text : List �
   pub lexed : AreTokens text tokens
   pub fault : IsFault (map terminal_of tokens) token
   pub here : byte ≡ place_of tokens (length text) token
+
+-- the fault of a text that has no tokens
+abbrev pub fault_of : LexError → ParseFault
+fault_of lexing.NoMemory = NoMemory
+fault_of (lexing.Fault fault) = Lex fault.at
 
 -- allocation failed, or the fault is that of the text
 abbrev pub IsRefused : List ℕ → ParseFault → Type 0

@@ -15,3 +15,4 @@ mod tree;
 
 pub use laws::{one_answer, one_syntax};
 pub use parser::{ParseFault, parse};
+pub use terminals::terminal_of;

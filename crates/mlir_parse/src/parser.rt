@@ -44,6 +44,19 @@ impl From<AllocError> for ParseFault {
     }
 }
 
+impl From<LexError> for ParseFault {
+    ghost use Rattle.mlir_parse.specs.Refused.{fault_of};
+
+    ghost from_gives = { λ lexed e. e ≡ fault_of lexed };
+
+    fn from(lexed: LexError) -> ParseFault {
+        match lexed {
+            LexError::NoMemory => ParseFault::NoMemory,
+            LexError::Fault(fault) => ParseFault::Lex(fault.at),
+        }
+    }
+}
+
 /// The terminals of the tokens.
 fn terminals_of(alloc: Global, tokens: &[Token]) -> Result<Vec<Terminal>, AllocError>
     ensures { IfOk result (λ made. made.items ≡ map terminals.terminal_of tokens.now) }
@@ -67,16 +80,12 @@ fn place(tokens: &[Token], length: u32, token: usize) -> u32
 
 /// The syntax of a text of fewer than 2^32 bytes: its tokens, with the tree that derives them by
 /// the grammar, with at most twelve open regions. Else the first fault.
-#[tactic(auto, using(crate::proofs::Parsed::few_terminals, crate::proofs::Parsed::syntax_is, crate::proofs::Parsed::fault_at))]
+#[tactic(auto, using(crate::proofs::Parsed::few_terminals, crate::proofs::Parsed::syntax_is, crate::proofs::Parsed::fault_at, crate::proofs::Parsed::refused_as))]
 pub fn parse(alloc: Global, text: &str) -> Result<Syntax, ParseFault>
     requires { length text.now < 2 ^ 32 }
     ensures { MatchResult result (λ syntax. IsSyntaxOf text.now syntax) (λ e. IsRefused text.now e) }
 {
-    let found = match tokens(alloc, text) {
-        Ok(found) => found,
-        Err(LexError::NoMemory) => return Err(ParseFault::NoMemory),
-        Err(LexError::Fault(fault)) => return Err(ParseFault::Lex(fault.at)),
-    };
+    let found = tokens(alloc, text)?;
     let length = text.len() as u32;
     let terminals = terminals_of(alloc, found.as_slice())?;
     let table = lines(alloc)?;

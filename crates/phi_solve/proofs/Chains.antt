@@ -4,12 +4,12 @@ use Rattle.std.proofs.lemmas.Bool.{eq-eqb, cases_order, cases_lt}
 use Rattle.scev_tree.specs.Polynomial.{Polynomial, Polynomials, num, ext, none, more, Power, power, coefficient, IsMonomial, Under, IsCanonical, AreCanonical, EndsNonzero, IsSamePolynomial, with_power}
 use Rattle.arith_word.specs.Binomial.{binomial}
 use Rattle.scev_tree.specs.Value.{worth, value, values, with_value}
-use Rattle.scev_tree.proofs.Values.{value_under, worth_here}
+use Rattle.scev_tree.proofs.ValueSupport.{value_under, worth_here}
 use Rattle.scev_tree.proofs.Unique.{unique_law, above}
-use Rattle.scev_tree.proofs.Places.{high_place}
+use Rattle.scev_tree.proofs.TreePlaces.{high_place}
 use Rattle.scev_tree.specs.Side.{IsSide}
 use Rattle.phi_solve.specs.Step.{IsChain}
-use Rattle.phi_solve.proofs.Steps.{side_one, side_ext}
+use Rattle.phi_solve.proofs.StepTrees.{side_one, side_ext}
 
 first : (n : ℕ) → binomial n 0 ≡ 1
 unfolding binomial

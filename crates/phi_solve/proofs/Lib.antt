@@ -1,4 +1,4 @@
-pub mod Around
+pub mod TestedPlaces
 pub mod Chains
 pub mod Recurrences
-pub mod Steps
+pub mod StepTrees

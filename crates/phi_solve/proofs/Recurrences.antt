@@ -5,12 +5,12 @@ use Rattle.std.proofs.Math.Nat.{mod-lt, mod-eq_of_lt, mod-add-mod, mod-add-div, 
 use Rattle.scev_tree.specs.Polynomial.{Polynomial, num, ext, Power, power, coefficient, IsMonomial, Under, IsCanonical, variable}
 use Rattle.scev_tree.specs.Value.{value, with_value}
 use Rattle.scev_tree.proofs.Agreeing.{worth_zero, worth_one}
-use Rattle.scev_tree.proofs.Places.{fits}
+use Rattle.scev_tree.proofs.TreePlaces.{fits}
 use Rattle.scev_tree.proofs.Unique.{unique_law, above}
-use Rattle.scev_tree.proofs.Values.{value_under}
+use Rattle.scev_tree.proofs.ValueSupport.{value_under}
 use Rattle.phi_solve.specs.Step.{IsStep, IsChain}
 use Rattle.phi_solve.proofs.Chains.{chain_begins, chain_grows}
-use Rattle.phi_solve.proofs.Steps.{step_tree, plus}
+use Rattle.phi_solve.proofs.StepTrees.{step_tree, plus}
 
 -- ---- the yielded value is the argument plus p
 

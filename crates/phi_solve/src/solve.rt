@@ -16,7 +16,7 @@ pub enum Solved {
     Not,
 }
 
-#[tactic(auto, using(crate::proofs::Steps::polynomial_of_ext, crate::proofs::Steps::polynomial_of_num))]
+#[tactic(auto, using(crate::proofs::StepTrees::polynomial_of_ext, crate::proofs::StepTrees::polynomial_of_num))]
 fn is_one(t: &Tree) -> bool
     ensures { IsTrue result ↔ (polynomial_of t.now ≡ num 1) }
 {
@@ -27,7 +27,7 @@ fn is_one(t: &Tree) -> bool
 }
 
 /// Whether all variables are at most the counter.
-#[tactic(auto, using(crate::proofs::Steps::polynomial_of_ext, crate::proofs::Steps::polynomial_of_num))]
+#[tactic(auto, using(crate::proofs::StepTrees::polynomial_of_ext, crate::proofs::StepTrees::polynomial_of_num))]
 pub fn is_low(t: &Tree, counter: Label) -> bool
     ensures { IsTrue result ↔ Under (polynomial_of t.now) (suc (variable_of true counter.0)) }
 {
@@ -48,7 +48,7 @@ pub fn is_low(t: &Tree, counter: Label) -> bool
 }
 
 /// Whether all variables are below the counter.
-#[tactic(auto, using(crate::proofs::Steps::polynomial_of_ext, crate::proofs::Steps::polynomial_of_num))]
+#[tactic(auto, using(crate::proofs::StepTrees::polynomial_of_ext, crate::proofs::StepTrees::polynomial_of_num))]
 pub fn is_below(t: &Tree, counter: Label) -> bool
     ensures { IsTrue result ↔ Under (polynomial_of t.now) (variable_of true counter.0) }
 {

@@ -1,8 +1,8 @@
 pub mod Ascii
 pub mod Digits
-pub mod Lists
-pub mod Values
+pub mod ByteLists
+pub mod WordNumbers
 pub mod Splits
 pub mod Counts
-pub mod Shapes
+pub mod CommandShapes
 pub mod InputLaws

@@ -2,7 +2,7 @@
 use Rattle.std.specs.Prelude.{ℕ, Bool, List, [], ◌∷◌, Option, Some, None, codes, if◌then◌else◌, option_map, option_and_then}
 use Rattle.std.specs.List.{before_first, after_first}
 use Rattle.std.specs.Str.{bytes_eq}
-use Rattle.scev_script.specs.declared.limits.TheConstants.{MAX_BUDGET, MAX_INDEX, MAX_VALUE}
+use Rattle.scev_script.specs.Limits.{budget_limit, index_limit, value_limit}
 use Rattle.scev_script.specs.declared.script.Pin.TheVariants.{Latest, At}
 use Rattle.scev_script.specs.declared.script.Command.{Command}
 use Rattle.scev_script.specs.declared.script.Command.TheVariants as command
@@ -14,7 +14,7 @@ use Rattle.scev_script.specs.Names.{name_of_session, symbol_of, value_named, loo
 -- `latest`, or the number of a version
 abbrev pub pin_of : List (List ℕ) → Option Command
 pin_of (k ∷ []) =
-    if bytes_eq k (codes "latest") then Some (command.Pin Latest) else option_map (λ n. command.Pin (At n)) (number_up_to MAX_INDEX k)
+    if bytes_eq k (codes "latest") then Some (command.Pin Latest) else option_map (λ n. command.Pin (At n)) (number_up_to index_limit k)
 pin_of _ = None
 
 -- `@f %v`
@@ -24,7 +24,7 @@ scev_of _ = None
 
 -- `#L N`, behind a function and a value
 abbrev pub at_iteration : List ℕ → ValueName → List (List ℕ) → Option Command
-at_iteration func value (l ∷ n ∷ []) = option_and_then (λ loop. option_map (command.At func value loop) (number_up_to MAX_VALUE n)) (loop_of l)
+at_iteration func value (l ∷ n ∷ []) = option_and_then (λ loop. option_map (command.At func value loop) (number_up_to value_limit n)) (loop_of l)
 at_iteration func value _ = None
 
 -- `@f %v #L N`
@@ -56,7 +56,7 @@ behind_slash words = after_first is_slash words
 abbrev pub run_of : List (List ℕ) → Option Command
 run_of (f ∷ b ∷ ws) =
     option_and_then (λ func. option_and_then (λ budget. option_and_then (λ args. option_map (command.Run func budget args)
-    (values_of (behind_slash ws))) (values_of (before_slash ws))) (number_up_to MAX_BUDGET b)) (symbol_of f)
+    (values_of (behind_slash ws))) (values_of (before_slash ws))) (number_up_to budget_limit b)) (symbol_of f)
 run_of _ = None
 
 -- `@f #L`

@@ -4,7 +4,7 @@ use Rattle.std.specs.List.{list_all, position_or_len, before_first}
 use Rattle.mlir_ir.specs.Names.{is_digit, is_letter, is_name}
 use Rattle.mlir_ir.specs.Tokens.{is_led, is_token}
 use Rattle.mlir_ir.specs.declared.token.TokenKind.TheVariants.{Symbol, Value}
-use Rattle.scev_script.specs.declared.limits.TheConstants.{MAX_NAME, MAX_INDEX}
+use Rattle.scev_script.specs.Limits.{session_name_limit, index_limit}
 use Rattle.scev_script.specs.declared.script.ValueName.{ValueName}
 use Rattle.scev_script.specs.Numbers.{number_up_to, place_of}
 
@@ -13,7 +13,7 @@ is_session_byte b = is_letter b || is_digit b || b == 95
 
 -- 1 to 32 letters, digits or `_`
 abbrev pub is_session_name : List ℕ → Bool
-is_session_name name = nat_lt 0 (length name) && nat_le (length name) MAX_NAME && list_all is_session_byte name
+is_session_name name = nat_lt 0 (length name) && nat_le (length name) session_name_limit && list_all is_session_byte name
 
 -- the word, where it is the name of a session
 abbrev pub name_of_session : List ℕ → Option (List ℕ)
@@ -59,4 +59,4 @@ value_named word = let front = before 35 word in named_by (before 33 front) (fro
 -- the number of a loop `#L`
 abbrev pub loop_of : List ℕ → Option ℕ
 loop_of [] = None
-loop_of (b ∷ digits) = if b == 35 then number_up_to MAX_INDEX digits else None
+loop_of (b ∷ digits) = if b == 35 then number_up_to index_limit digits else None

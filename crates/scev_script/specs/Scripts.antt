@@ -5,7 +5,7 @@ use Rattle.std.specs.Str.{bytes_eq}
 use Rattle.scev_script.specs.declared.error.InputError.{InputError}
 use Rattle.scev_script.specs.declared.error.InputError.TheVariants.{NoMemory, Fault}
 use Rattle.scev_script.specs.declared.error.InputFault.{InputFault}
-use Rattle.scev_script.specs.declared.limits.TheConstants.{MAX_SESSIONS, MAX_COMMANDS, MAX_HELD, MAX_PRINTS, MAX_BUDGET}
+use Rattle.scev_script.specs.Limits.{session_limit, command_limit, held_limit, print_limit, budget_limit}
 use Rattle.scev_script.specs.declared.script.Command.{Command}
 use Rattle.scev_script.specs.declared.script.Command.TheVariants as command
 use Rattle.scev_script.specs.declared.script.Input.{Input}
@@ -81,8 +81,8 @@ budget_of _ = 0
 -- what the limits on a session allow
 abbrev pub within_limits : List Command → Bool
 within_limits commands =
-    nat_le (length commands) MAX_COMMANDS && nat_le (count_by is_hold commands) MAX_HELD
-    && nat_le (count_by is_print commands) MAX_PRINTS && nat_le (sum_by budget_of commands) MAX_BUDGET
+    nat_le (length commands) command_limit && nat_le (count_by is_hold commands) held_limit
+    && nat_le (count_by is_print commands) print_limit && nat_le (sum_by budget_of commands) budget_limit
 
 -- the commands and one more, of the line at that place
 abbrev pub with_command : ℕ → ℕ → List Command → Command → Result (List Command) InputFault
@@ -124,7 +124,7 @@ abbrev pub next_name : ℕ → ℕ → List Script → Option (List ℕ) → Res
 next_name module_end at scripts None = Err (script_fault module_end at)
 next_name module_end at scripts (Some name) =
     if list_any (is_named name) scripts then Err (script_fault module_end at)
-    else (if nat_lt (length scripts) MAX_SESSIONS then Ok name else Err (limit_fault module_end at))
+    else (if nat_lt (length scripts) session_limit then Ok name else Err (limit_fault module_end at))
 
 -- the name of the session that a line begins
 abbrev pub session_name : ℕ → ℕ → List Script → List ℕ → Result (List ℕ) InputFault

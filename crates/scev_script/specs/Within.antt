@@ -1,7 +1,7 @@
 -- What each input keeps: the names of its sessions, the names that they hold, and the limits.
 use Rattle.std.specs.Prelude.{ℕ, ◌≡◌, ◌≤◌, true, false, List, Some, length, take, slice_get}
 use Rattle.std.specs.List.{list_any}
-use Rattle.scev_script.specs.declared.limits.TheConstants.{MAX_SESSIONS}
+use Rattle.scev_script.specs.Limits.{session_limit}
 use Rattle.scev_script.specs.declared.script.Command.{Command}
 use Rattle.scev_script.specs.declared.script.Script.{Script}
 use Rattle.scev_script.specs.Names.{is_session_name}
@@ -24,5 +24,5 @@ pub record IsNextScript (before : List Script) (script : Script) : Type 0 where
 
 -- the scripts of an input
 pub record AreScripts (scripts : List Script) : Type 0 where
-  pub few : length scripts ≤ MAX_SESSIONS
+  pub few : length scripts ≤ session_limit
   pub each : EachAfter IsNextScript scripts

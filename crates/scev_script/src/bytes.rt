@@ -20,7 +20,7 @@ pub fn is_blank_byte(byte: u8) -> bool
 }
 
 /// How many bytes are before the first such byte, all where there is none.
-#[tactic(auto, using(crate::proofs::Lists::first_within))]
+#[tactic(auto, using(crate::proofs::ByteLists::first_within))]
 pub fn place_of_first(mark: u8, bytes: &[u8]) -> usize
     ensures value { result ≡ position_or_len (λ b. b == mark) bytes.now }
     ensures within { result ≤ length bytes.now }

@@ -3,7 +3,7 @@ ghost use Rattle.std.specs.List.{position_or_len};
 ghost use Rattle.scev_script.specs.Commands as commands;
 ghost use Rattle.scev_script.specs.Commands.{before_slash, behind_slash};
 
-use crate::limits::{MAX_BUDGET, MAX_INDEX, MAX_VALUE};
+use crate::limits::{BUDGET_LIMIT, INDEX_LIMIT, VALUE_LIMIT};
 use crate::names::{loop_number, session_name, symbol, value_named};
 use crate::numbers::{number_up_to, value};
 use crate::script::{Command, Pin, ValueName};
@@ -20,7 +20,7 @@ fn pin_command(words: &[&[u8]]) -> Option<Command>
             if *k == b"latest".as_slice() {
                 Some(Command::Pin(Pin::Latest))
             } else {
-                let number = number_up_to(MAX_INDEX, k)?;
+                let number = number_up_to(INDEX_LIMIT, k)?;
                 Some(Command::Pin(Pin::At(number as u16)))
             }
         }
@@ -29,7 +29,7 @@ fn pin_command(words: &[&[u8]]) -> Option<Command>
 }
 
 /// The `scev` command of the words behind its name.
-#[tactic(auto, using(crate::proofs::Shapes::scev_other))]
+#[tactic(auto, using(crate::proofs::CommandShapes::scev_other))]
 fn scev_command(alloc: Global, words: &[&[u8]]) -> Result<Option<Command>, AllocError>
     ensures { IfOk result (λ o. o ≡ commands.scev_of (map (λ w. w.now) words.now)) }
 {
@@ -54,7 +54,7 @@ fn at_iteration(func: Text, value: ValueName, words: &[&[u8]]) -> Option<Command
     match words {
         [l, n] => {
             let number = loop_number(l)?;
-            let iteration = number_up_to(MAX_VALUE, n)?;
+            let iteration = number_up_to(VALUE_LIMIT, n)?;
             Some(Command::At(func, value, number, iteration))
         }
         _ => None,
@@ -98,7 +98,7 @@ fn turns_command(alloc: Global, words: &[&[u8]]) -> Result<Option<Command>, Allo
 }
 
 /// The numbers of the words, in order.
-#[tactic(auto, using(crate::proofs::Values::one_more, crate::proofs::Values::no_value, crate::proofs::Values::all_read))]
+#[tactic(auto, using(crate::proofs::WordNumbers::one_more, crate::proofs::WordNumbers::no_value, crate::proofs::WordNumbers::all_read))]
 fn values(alloc: Global, words: &[&[u8]]) -> Result<Option<List<u64>>, AllocError>
     ensures { IfOk result (λ o. o ≡ commands.values_of (map (λ w. w.now) words.now)) }
 {
@@ -146,7 +146,7 @@ fn run_command(alloc: Global, words: &[&[u8]]) -> Result<Option<Command>, AllocE
             let Some(func) = symbol(alloc, f)? else {
                 return Ok(None);
             };
-            let Some(budget) = number_up_to(MAX_BUDGET, b) else {
+            let Some(budget) = number_up_to(BUDGET_LIMIT, b) else {
                 return Ok(None);
             };
             let (arguments, replies) = arguments_and_replies(rest);
@@ -181,7 +181,7 @@ fn forget_command(alloc: Global, words: &[&[u8]]) -> Result<Option<Command>, All
 }
 
 /// The `hold` command of the words behind its name.
-#[tactic(auto, using(crate::proofs::Shapes::hold_other))]
+#[tactic(auto, using(crate::proofs::CommandShapes::hold_other))]
 fn hold_command(alloc: Global, words: &[&[u8]]) -> Result<Option<Command>, AllocError>
     ensures { IfOk result (λ o. o ≡ commands.hold_of (map (λ w. w.now) words.now)) }
 {

@@ -9,7 +9,7 @@ ghost use Rattle.scev_script.specs.declared.error.InputError.TheVariants.{Fault}
 
 use crate::commands::command_in;
 use crate::error::{InputError, InputFault};
-use crate::limits::MAX_SESSIONS;
+use crate::limits::SESSION_LIMIT;
 use crate::lines::first_line;
 use crate::names::session_name;
 use crate::script::{Command, Input, Script};
@@ -166,7 +166,7 @@ fn read_header(
         Some(name) => {
             if is_used(before, name.as_bytes()) {
                 Err(script_fault(module_end, at))
-            } else if before.len() < MAX_SESSIONS {
+            } else if before.len() < SESSION_LIMIT {
                 Ok(name)
             } else {
                 Err(limit_fault(module_end, at))

@@ -20,6 +20,6 @@ mod words;
 pub use commands::command;
 pub use error::{InputError, InputFault};
 pub use input::read_input;
-pub use limits::{MAX_BUDGET, MAX_COMMANDS, MAX_HELD, MAX_PRINTS, MAX_SESSIONS};
+pub use limits::{BUDGET_LIMIT, COMMAND_LIMIT, HELD_LIMIT, PRINT_LIMIT, SESSION_LIMIT};
 pub use reply::{RefusalName, Reply, answer_text};
 pub use script::{Command, Input, Pin, Script, ValueName};

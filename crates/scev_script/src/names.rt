@@ -3,7 +3,7 @@ ghost use Rattle.std.specs.List.{list_all};
 ghost use Rattle.scev_script.specs.Names as names;
 
 use crate::bytes::{is_session, place_of_first};
-use crate::limits::{MAX_INDEX, MAX_NAME};
+use crate::limits::{INDEX_LIMIT, SESSION_NAME_LIMIT};
 use crate::numbers::{number_up_to, place};
 use crate::script::ValueName;
 use arith_word::Text;
@@ -20,7 +20,7 @@ fn are_session(bytes: &[u8]) -> bool
 fn is_session_name(name: &[u8]) -> bool
     ensures { result ≡ names.is_session_name name.now }
 {
-    !name.is_empty() && name.len() <= MAX_NAME && are_session(name)
+    !name.is_empty() && name.len() <= SESSION_NAME_LIMIT && are_session(name)
 }
 
 /// The word, where it is the name of a session.
@@ -99,7 +99,7 @@ pub fn loop_number(word: &[u8]) -> Option<u16>
         None => None,
         Some((first, digits)) => {
             if *first == b'#' {
-                let number = number_up_to(MAX_INDEX, digits)?;
+                let number = number_up_to(INDEX_LIMIT, digits)?;
                 Some(number as u16)
             } else {
                 None

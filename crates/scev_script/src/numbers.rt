@@ -1,7 +1,7 @@
 ghost use Rattle.std.specs.Prelude.{◌≡◌, ◌≤◌, ◌<◌, ◌^◌};
 ghost use Rattle.scev_script.specs.Numbers as numbers;
 
-use crate::limits::{MAX_BELOW, MAX_DIGITS, MAX_PLACE, MAX_VALUE};
+use crate::limits::{BELOW_LIMIT, DIGIT_LIMIT, PLACE_LIMIT, VALUE_LIMIT};
 use mlir_ir::is_digit;
 
 /// The number of 1 to 20 decimal digits.
@@ -9,7 +9,7 @@ use mlir_ir::is_digit;
 fn number(word: &[u8]) -> Option<u128>
     ensures { result ≡ numbers.number_of word.now }
 {
-    if word.is_empty() || word.len() > MAX_DIGITS {
+    if word.is_empty() || word.len() > DIGIT_LIMIT {
         return None;
     }
     let mut n: u128 = 0;
@@ -39,7 +39,7 @@ pub fn place(word: &[u8]) -> Option<u32>
     ensures { result ≡ numbers.place_of word.now }
 {
     let n = number(word)?;
-    Some(n.min(u128::from(MAX_PLACE)) as u32)
+    Some(n.min(u128::from(PLACE_LIMIT)) as u32)
 }
 
 /// The residue of -n modulo 2^64.
@@ -57,10 +57,10 @@ pub fn value(word: &[u8]) -> Option<u64>
         None => None,
         Some((first, digits)) => {
             if *first == b'-' {
-                let n = number_up_to(MAX_BELOW, digits)?;
+                let n = number_up_to(BELOW_LIMIT, digits)?;
                 Some(residue_below(n))
             } else {
-                number_up_to(MAX_VALUE, word)
+                number_up_to(VALUE_LIMIT, word)
             }
         }
     }

@@ -3,7 +3,7 @@ ghost use Rattle.std.specs.List.{list_any};
 ghost use Rattle.scev_script.specs.Counted.{AreCounted, are_few};
 ghost use Rattle.scev_script.specs.Scripts as scripts;
 
-use crate::limits::{MAX_BUDGET, MAX_COMMANDS, MAX_HELD, MAX_PRINTS};
+use crate::limits::{BUDGET_LIMIT, COMMAND_LIMIT, HELD_LIMIT, PRINT_LIMIT};
 use crate::script::Command;
 use arith_word::List;
 use std::alloc::{AllocFailed, Global};
@@ -76,7 +76,10 @@ fn are_few(commands: usize, held: u64, prints: u64, budget: u64) -> bool
     requires { commands < 2 ^ 63 }
     ensures { result ≡ are_few commands held prints budget }
 {
-    commands < MAX_COMMANDS && held <= MAX_HELD && prints <= MAX_PRINTS && budget <= MAX_BUDGET
+    commands < COMMAND_LIMIT
+        && held <= HELD_LIMIT
+        && prints <= PRINT_LIMIT
+        && budget <= BUDGET_LIMIT
 }
 
 impl Commands {

@@ -9,7 +9,7 @@ use Rattle.mlir_ir.specs.Values.{Value, arg_values}
 use Rattle.mlir_ir.specs.Words.{type_text}
 use Rattle.scev_server.specs.Guess.{Row, Defs, words_of, type_of, row_of, onto_row, defs_of, onto_defs, defined, begins, word, arg_of, arg_size, args_of}
 use Rattle.scev_server.specs.Reading.{IsType}
-use Rattle.scev_server.proofs.Rows.{row_over, defs_over}
+use Rattle.scev_server.proofs.ReadingSteps.{row_over, defs_over}
 use Rattle.scev_server.proofs.Spaced.{IsWord, ReadsBefore, AreRead, word_before, reads_both, reads_gap, joined_before, Reads}
 use Rattle.scev_server.proofs.Texts.{value_word, name_bytes, text_again, type_again}
 use Rattle.scev_server.proofs.Named.{Agrees, IsFresh, IsNamed, agrees_more}

@@ -33,7 +33,7 @@ use Rattle.mlir_ir.specs.Values.{Value, value_at, type_at, arg_values, result_va
 use Rattle.scev_server.specs.Input.{IsSmallKind, IsSmallItem, IsSmall}
 use Rattle.scev_server.specs.Reading.{IsType, IsTypedItem, IsTyped}
 use Rattle.scev_server.proofs.Named.{IsFresh, IsIn, last_cases}
-use Rattle.scev_server.proofs.Lines.{IsReadKind}
+use Rattle.scev_server.proofs.OperationLines.{IsReadKind}
 use Rattle.scev_server.proofs.Again.{IsReadArg, AreReadArgs}
 use Rattle.scev_server.proofs.Items.{IsReadItem, AreReadItems}
 use Rattle.scev_server.proofs.Inputs.{AreTypes, AreIn, AreOf, IsReadFunc}

@@ -15,7 +15,7 @@ use Rattle.mlir_ir.specs.Values.{Value, type_at, arg_values, body_values, items_
 use Rattle.mlir_ir.specs.Words.{type_text}
 use Rattle.scev_server.specs.Guess.{Row, Defs, Part, IsRow, IsDefs, IsPart, word, begins, row_of, name_of, type_of, types_of, behind_arrow, args_of, items_of, uses_of, use_of, body_of, func_of}
 use Rattle.scev_server.specs.Reading.{IsType}
-use Rattle.scev_server.proofs.Parts.{body_is, func_is}
+use Rattle.scev_server.proofs.InputParts.{body_is, func_is}
 use Rattle.scev_server.proofs.Spaced.{IsWord, Reads, ReadsBefore, AreRead, word_before, reads_both, reads_gap, reads_none, joined_before, reads_spaced}
 use Rattle.scev_server.proofs.Texts.{symbol_word, name_bytes, text_again, type_again}
 use Rattle.scev_server.proofs.Named.{Agrees, IsIn, IsUseWord, use_word, agrees_none}

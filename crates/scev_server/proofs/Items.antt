@@ -13,11 +13,11 @@ use Rattle.mlir_ir.specs.Names.{is_name}
 use Rattle.mlir_ir.specs.Values.{Value, kind_values, result_values, op_values, ops_values, items_values}
 use Rattle.scev_server.specs.Guess.{Defs, word, words_of, begins, defined, item_of, item_size, item_label, items_of, shape_of, result_of, kind_of, name_of}
 use Rattle.scev_server.specs.Reading.{IsType}
-use Rattle.scev_server.proofs.Rows.{defs_over}
+use Rattle.scev_server.proofs.ReadingSteps.{defs_over}
 use Rattle.scev_server.proofs.Spaced.{Reads, reads_both, reads_none}
 use Rattle.scev_server.proofs.Texts.{value_word, name_bytes, text_again}
 use Rattle.scev_server.proofs.Named.{Agrees, IsFresh, IsNamed, agrees_more}
-use Rattle.scev_server.proofs.Lines.{IsReadKind, ReadKind, kind_read, line_is, named_line}
+use Rattle.scev_server.proofs.OperationLines.{IsReadKind, ReadKind, kind_read, line_is, named_line}
 use Rattle.scev_server.proofs.Again.{defs_turn}
 
 -- an item of one operation with one result, which may stand behind the values

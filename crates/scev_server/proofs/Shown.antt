@@ -22,7 +22,7 @@ use Rattle.scev_server.specs.Input.{input_text, sessions_text}
 use Rattle.scev_server.specs.Printed.{name_text, arg_use, item_use, label_use, label_text, body_use, op_name, ops_name, packs_name, printed_kind, printed_line, printed_ops, printed_items, printed_ends, printed_body, printed_func, printed}
 use Rattle.scev_server.proofs.Texts.{IsSmallOp}
 use Rattle.scev_server.proofs.Named.{IsIn, last_cases, eqb_true, found_more, value_text_is}
-use Rattle.scev_server.proofs.Lines.{IsReadKind, named_line, no_flags}
+use Rattle.scev_server.proofs.OperationLines.{IsReadKind, named_line, no_flags}
 use Rattle.scev_server.proofs.Items.{IsReadItem, AreReadItems, values_are, value_of, item_text_is}
 use Rattle.scev_server.proofs.Inputs.{AreIn, AreOf, IsReadFunc, values_of, lines_are}
 use Rattle.scev_server.proofs.Sessions.{IsReadInput}

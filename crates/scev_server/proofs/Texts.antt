@@ -15,7 +15,7 @@ use Rattle.scev_server.specs.Guess.{is_gap, begins, text_of, type_of, as_width, 
 use Rattle.scev_server.specs.Input.{is_session_byte}
 use Rattle.scev_server.specs.Reading.{IsType}
 use Rattle.scev_server.proofs.Spaced.{is_free, IsWord}
-use Rattle.scev_server.proofs.Numbers.{digit_passes, digit_is_free}
+use Rattle.scev_server.proofs.NumberTexts.{digit_passes, digit_is_free}
 
 -- bytes that pass one test pass another
 weaker : (p q : ℕ → Bool) → ((b : ℕ) → p b ≡ true → q b ≡ true) → (bs : List ℕ) → list_all p bs ≡ true → list_all q bs ≡ true

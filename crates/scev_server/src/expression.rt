@@ -87,7 +87,7 @@ fn push_sum(
 }
 
 /// Adds the text of an expression of a value of the function.
-#[tactic(auto, using(crate::proofs::Factors::factors_below))]
+#[tactic(auto, using(crate::proofs::TermFactors::factors_below))]
 pub fn push_expr(out: &mut String, func: &Func, e: &Expr) -> Result<(), AllocError>
     requires { IsPlainFunc func.now }
     ensures { OnOk result (string_bytes out.new ≡ string_bytes out.old ++ expr_text (func_values func.now) e.now) }

@@ -6,16 +6,16 @@ mod gate;
 mod input;
 mod names;
 mod reply;
+mod serving;
 mod session;
 mod signed;
 mod small;
 mod status;
-mod top;
 
 pub use gate::{Gate, OpenGate};
 pub use input::{Command, Input, Script, ValueName};
 pub use scev_io::{
     Failed, MemSink, MemSource, ReadEnd, Sink, Source, StdSink, StdSource, read_all, write_all,
 };
+pub use serving::serve;
 pub use status::Status;
-pub use top::serve;

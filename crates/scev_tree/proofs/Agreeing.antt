@@ -9,7 +9,7 @@ use Rattle.scev_tree.specs.Standing.{Stands, StandsIn, HasTree}
 use Rattle.scev_tree.specs.Tree.{polynomials}
 use Rattle.arith_word.specs.Binomial.{binomial}
 use Rattle.scev_tree.specs.Value.{worth, value, values}
-use Rattle.scev_tree.proofs.Rows.{polynomial_of_ext, polynomial_of_num}
+use Rattle.scev_tree.proofs.ListedTrees.{polynomial_of_ext, polynomial_of_num}
 
 worth_same : (s t : ℕ → ℕ) (x j : ℕ) → s x ≡ t x → worth s x j ≡ worth t x j
 unfolding worth

@@ -4,8 +4,8 @@ use Rattle.std.proofs.lemmas.Bool.{eq-eqb, eqb-true}
 use Rattle.scev_tree.specs.declared.tree.Tree.{Tree, Num}
 use Rattle.scev_tree.specs.Polynomial.{Polynomial, Polynomials, num, ext}
 use Rattle.scev_tree.specs.Tree.{polynomial_of, polynomials, len}
-use Rattle.scev_tree.proofs.Rows.{polynomial_of_num, len_is}
-use Rattle.scev_tree.proofs.Ends.{snoc, polynomials_snoc, take_snoc}
+use Rattle.scev_tree.proofs.ListedTrees.{polynomial_of_num, len_is}
+use Rattle.scev_tree.proofs.GrowingLists.{snoc, polynomials_snoc, take_snoc}
 
 pub equal_numbers : (a b : Tree) (u v : ℕ) → a ≡ Num u → b ≡ Num v → IsTrue (nat_eq u v) ↔ (polynomial_of a ≡ polynomial_of b)
 equal_numbers a b u v ea eb =

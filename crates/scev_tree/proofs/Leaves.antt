@@ -6,7 +6,7 @@ use Rattle.arith_word.specs.declared.label.Label.{Label}
 use Rattle.scev_tree.specs.declared.tree.Tree.{Tree, Num, Ext}
 use Rattle.scev_tree.specs.Polynomial.{Polynomial, num, IsCanonical, IsSamePolynomial, variable, variable_of}
 use Rattle.scev_tree.specs.Tree.{polynomial_of}
-use Rattle.scev_tree.proofs.Rows.{polynomial_of_num, polynomial_of_ext}
+use Rattle.scev_tree.proofs.ListedTrees.{polynomial_of_num, polynomial_of_ext}
 use Rattle.scev_tree.proofs.Unique.{unique_law}
 
 low_bits : (v w m : ℕ) → m + 1 ≡ 2 ^ w → bit_and v m ≡ v % 2 ^ w

@@ -5,7 +5,7 @@ use Rattle.std.specs.Prelude.{bit_and}
 use Rattle.scev_tree.specs.declared.tree.Tree.{Tree, Num}
 use Rattle.scev_tree.specs.Polynomial.{Polynomial, num, more, AreCanonical, IsBuilt}
 use Rattle.scev_tree.specs.Tree.{polynomial_of, polynomials, residues}
-use Rattle.scev_tree.proofs.Ends.{snoc, polynomials_snoc}
+use Rattle.scev_tree.proofs.GrowingLists.{snoc, polynomials_snoc}
 use Rattle.scev_tree.proofs.Leaves.{number_is}
 
 residues_snoc : (M : ℕ) (vs : List ℕ) (v : ℕ) → residues M (vs ++ v ∷ []) ≡ snoc (residues M vs) (num (v % M))

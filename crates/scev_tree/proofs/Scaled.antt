@@ -5,9 +5,9 @@ use Rattle.std.proofs.Math.Nat.{mod-eq_of_lt}
 use Rattle.scev_tree.specs.declared.tree.Tree.{Tree, Num}
 use Rattle.scev_tree.specs.Polynomial.{Polynomial, Polynomials, num, ext, none, more, Power, coefficient, place, IsMonomial, IsCanonical, AreCanonical, IsScaled, IsBuilt}
 use Rattle.scev_tree.specs.Tree.{polynomial_of, polynomials, Each}
-use Rattle.scev_tree.proofs.Rows.{polynomial_of_num}
-use Rattle.scev_tree.proofs.Ends.{take_snoc}
-use Rattle.scev_tree.proofs.Places.{places_canon}
+use Rattle.scev_tree.proofs.ListedTrees.{polynomial_of_num}
+use Rattle.scev_tree.proofs.GrowingLists.{take_snoc}
+use Rattle.scev_tree.proofs.TreePlaces.{places_canon}
 
 pub each_push : (R : Polynomial → Polynomial → Type 0) (out out' ts : List Tree) (i : ℕ) (r t : Tree) → Each R (polynomials out) (polynomials (take i ts)) → i < length ts → t ≡ get_or ts i t → R (polynomial_of r) (polynomial_of t) → out' ≡ out ++ r ∷ [] → Each R (polynomials out') (polynomials (take (i + 1) ts))
 each_push R out out' ts i r t e h is s o =

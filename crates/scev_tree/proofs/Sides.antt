@@ -4,8 +4,8 @@ use Rattle.scev_tree.specs.declared.tree.Tree.{Tree}
 use Rattle.scev_tree.specs.Polynomial.{Polynomial, Polynomials, ext, none, more, Under}
 use Rattle.scev_tree.specs.Side.{IsSide}
 use Rattle.scev_tree.specs.Tree.{polynomials, polynomial_of}
-use Rattle.scev_tree.proofs.Ends.{one_at}
-use Rattle.scev_tree.proofs.Places.{places_canon}
+use Rattle.scev_tree.proofs.GrowingLists.{one_at}
+use Rattle.scev_tree.proofs.TreePlaces.{places_canon}
 
 pub side_one : (x : ℕ) (a : Polynomial) → Under a x → IsSide x (more a none) a
 side_one x a u = record { canon = λ M c. (u, c, tt); at = λ M c m top is. one_at M x a m top c u is }

@@ -6,8 +6,8 @@ use Rattle.scev_tree.specs.declared.tree.Tree.{Tree, Num}
 use Rattle.scev_tree.specs.Polynomial.{Polynomial, Polynomials, num, ext}
 use Rattle.scev_tree.specs.Tree.{polynomials, polynomial_of}
 use Rattle.scev_tree.specs.Measure.{monomials, monomials_in, total_degree, total_degree_from, degree_in_place}
-use Rattle.scev_tree.proofs.Rows.{polynomial_of_num}
-use Rattle.scev_tree.proofs.Ends.{take_snoc}
+use Rattle.scev_tree.proofs.ListedTrees.{polynomial_of_num}
+use Rattle.scev_tree.proofs.GrowingLists.{take_snoc}
 
 sizes_snoc : (us : List Tree) (t : Tree) → monomials_in (polynomials (us ++ t ∷ [])) ≡ monomials_in (polynomials us) + monomials (polynomial_of t)
 sizes_snoc [] t = omega arith

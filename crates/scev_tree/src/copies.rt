@@ -7,7 +7,7 @@ use std::alloc::{AllocError, Global};
 
 /// A copy, which stands for the same polynomial.
 #[cycle(copying)]
-#[tactic(auto, using(crate::proofs::Rows::polynomial_of_ext, crate::proofs::Rows::polynomial_of_num))]
+#[tactic(auto, using(crate::proofs::ListedTrees::polynomial_of_ext, crate::proofs::ListedTrees::polynomial_of_num))]
 pub fn copy_tree(alloc: Global, t: &Tree) -> Result<Tree, AllocError>
     ensures { IfOk result (λ r. polynomial_of r ≡ polynomial_of t.now) }
 {

@@ -21,7 +21,7 @@ pub struct Expr {
 }
 
 /// The number modulo 2 to the width.
-#[tactic(auto, using(crate::proofs::Rows::polynomial_of_num))]
+#[tactic(auto, using(crate::proofs::ListedTrees::polynomial_of_num))]
 pub fn num(w: Width, v: u64) -> Expr
     ensures width { result.w ≡ w }
     ensures value { polynomial_of result.tree ≡ number (v % 2 ^ w) }

@@ -28,7 +28,7 @@ fn size_all(ts: &[Tree]) -> u32
 
 /// The greatest total degree of a monomial; the greatest u32 where it is more.
 #[cycle(grading)]
-#[tactic(auto, using(crate::proofs::Rows::polynomial_of_num))]
+#[tactic(auto, using(crate::proofs::ListedTrees::polynomial_of_num))]
 pub fn tree_degree(t: &Tree) -> u32
     ensures { result ≡ min (total_degree (polynomial_of t.now)) (2 ^ 32 - 1) }
 {

@@ -18,7 +18,7 @@ pub enum Tree {
 }
 
 /// Whether the tree is the number 0.
-#[tactic(auto, using(crate::proofs::Rows::polynomial_of_ext, crate::proofs::Rows::polynomial_of_num))]
+#[tactic(auto, using(crate::proofs::ListedTrees::polynomial_of_ext, crate::proofs::ListedTrees::polynomial_of_num))]
 pub fn is_zero(t: &Tree) -> bool
     ensures { IsTrue result ↔ (polynomial_of t.now ≡ num 0) }
 {

@@ -3,7 +3,7 @@ use Rattle.std.specs.Prelude.{◌≡◌, ◌≢◌, ℕ, suc, ◌<◌, ◌≤◌
 use mathlib.Core.Option.{some}
 use mathlib.Core.List.{IsPrefix}
 use lib.ListN.{get_elem?}
-use Rattle.step_core.specs.declared.limits.TheConstants.{MOST_AUTHORS}
+use Rattle.step_core.specs.Limits.{author_limit}
 use Rattle.step_core.specs.declared.view.View.{View}
 use Rattle.step_core.specs.declared.view.Old.{Old}
 use Rattle.step_core.specs.declared.words.Words.{Words}
@@ -75,7 +75,7 @@ pub record AreWon (count : ℕ) (log : List ℕ) (words : Words) (views : List V
   pub cells : (at word : ℕ) → total (λ v. entries at word (won_cells v.events)) views ≡ entries at word (full_places words.cells)
   -- each author below the count is in one view, once
   pub authors : (a : ℕ) → total (λ v. times a v.authors) views ≡ (if nat_lt a count then 1 else 0)
-  pub few : count ≤ MOST_AUTHORS
+  pub few : count ≤ author_limit
 
 pub record Good (m : Meaning) (base : List ℕ) (count : ℕ) (words : Words) (views : List View) : Type 0 where
   pub sized : AreSized words

@@ -2,7 +2,7 @@
 use Rattle.std.specs.Prelude.{◌≡◌, ◌≢◌, ℕ, ◌-◌, ◌/◌, ◌%◌, ◌^◌, ◌<◌, ◌≤◌, length}
 use Rattle.std.specs.Int.{IsPowerOfTwo}
 use Rattle.step_core.specs.declared.words.Words.{Words}
-use Rattle.step_core.specs.declared.limits.TheConstants.{MOST_PUBLICATIONS, FEWEST_PLACES, MOST_PLACES}
+use Rattle.step_core.specs.Limits.{publication_limit, least_places, place_limit}
 
 -- A log word: the number of the transformation, its factor less 1, the label of the target loop, the
 -- version that it transforms, and who published it
@@ -49,16 +49,16 @@ id_of w = w % 2 ^ 21 - 1
 pub record IsIdWord (w : ℕ) : Type 0 where
   pub marked : w / 2 ^ 21 ≡ 2 ^ 42
   pub least : 1 ≤ w % 2 ^ 21
-  pub greatest : w % 2 ^ 21 ≤ MOST_PLACES
+  pub greatest : w % 2 ^ 21 ≤ place_limit
 
 -- a size of the cells, or of the memos
 pub record IsSize (n : ℕ) : Type 0 where
   pub power : IsPowerOfTwo n
-  pub least : FEWEST_PLACES ≤ n
-  pub greatest : n ≤ MOST_PLACES
+  pub least : least_places ≤ n
+  pub greatest : n ≤ place_limit
 
 pub record AreSized (w : Words) : Type 0 where
-  pub log : length w.log ≡ MOST_PUBLICATIONS
+  pub log : length w.log ≡ publication_limit
   pub keys : IsSize (length w.keys)
   pub ids : length w.ids ≡ length w.keys
   pub cells : IsSize (length w.cells)

@@ -11,12 +11,12 @@ ghost use Rattle.step_core.specs.Answers.{IsAtPlace, word_at, words_after, words
 ghost use Rattle.step_core.specs.Cells.{Learns, Stands};
 ghost use Rattle.step_core.specs.Events.{Allowed, Clears, IsLive, LearnsCells, Runs, State};
 ghost use Rattle.step_core.specs.Good.{AreCells, Good, IsEmptyTable};
+ghost use Rattle.step_core.specs.Limits.{author_limit};
 ghost use Rattle.step_core.specs.Maps.{AllOf, Has, Map, full_places, times};
 ghost use Rattle.step_core.specs.Parts.{Part, expression_part, height};
 ghost use Rattle.step_core.specs.Views.{dealer, dealt, first_view};
 ghost use Rattle.step_core.specs.Words.{AreSized, id_of, version_of};
 
-use crate::limits::MOST_AUTHORS;
 use crate::meaning::MemoMeaning;
 
 /// Events that are each allowed at their turn keep the state good.
@@ -73,7 +73,7 @@ pub fn found_ids_stand<M: MemoMeaning>()
 /// Where nothing was written, the state with the first view alone is good.
 pub fn start_is_good<M: MemoMeaning>()
     ensures { (base : List ℕ) (count : ℕ) (words : Words)
-        → AreSized words → IsEmptyTable words → count ≤ MOST_AUTHORS
+        → AreSized words → IsEmptyTable words → count ≤ author_limit
         → Good M.meaning base count words (first_view base count ∷ []) }
 {}
 

@@ -7,7 +7,7 @@ use Rattle.arith_word.specs.Operation.{holds}
 use Rattle.arith_word.specs.declared.op.Pred.{Pred}
 use Rattle.chrec_algebra.specs.Sum.{IsDifference}
 use Rattle.chrec_algebra.proofs.Differences.{value_difference}
-use Rattle.chrec_algebra.proofs.Values.{value_scaled}
+use Rattle.chrec_algebra.proofs.PolynomialValues.{value_scaled}
 use Rattle.exit_solver.proofs.Exits.{left_inside, same_least}
 use Rattle.scev_tree.specs.Polynomial.{Polynomial, IsCanonical}
 use Rattle.scev_tree.specs.Tree.{polynomial_of}
@@ -21,11 +21,11 @@ use Rattle.trip_count.specs.declared.answer.Turns.{Turns}
 use Rattle.trip_count.specs.declared.condition.Test.{Test}
 use Rattle.trip_count.specs.declared.condition.Test.TheVariants.{Number, Compare, Other}
 use Rattle.trip_count.proofs.Chain.{Maybe, where_true, where_false, chain}
-use Rattle.trip_count.proofs.Lines.{HasShape, has_shape, HasNumbers, HasNumber, numeric_is, number_is}
+use Rattle.trip_count.proofs.RecurrenceValues.{HasShape, has_shape, HasNumbers, HasNumber, numeric_is, number_is}
 use Rattle.trip_count.proofs.Passed.{passed}
 use Rattle.trip_count.proofs.Predicates.{by_equality, equal_by_difference, swapped_holds, ne_is_equality, ne_holds}
-use Rattle.trip_count.proofs.Roots.{negated, root_is, root_least}
-use Rattle.trip_count.proofs.Shapes.{shape_fits}
+use Rattle.trip_count.proofs.LinearRoots.{negated, root_is, root_least}
+use Rattle.trip_count.proofs.PolynomialShapes.{shape_fits}
 use Rattle.trip_count.proofs.Trips.{IsTrip, always_trip, hit_trip}
 
 module _ (env : ℕ → ℕ) (w x : ℕ) (pred : Pred) (l r d : Polynomial) (t : Turns) (cl : IsCanonical (2 ^ w) l) (cr : IsCanonical (2 ^ w) r) (cd : IsCanonical (2 ^ w) d) (diff : IsDifference (2 ^ w) d l r) where

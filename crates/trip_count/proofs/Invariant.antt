@@ -15,7 +15,7 @@ use Rattle.trip_count.specs.declared.answer.Turns.TheVariants.{Count, Never, Exa
 use Rattle.trip_count.specs.declared.condition.Test.{Test}
 use Rattle.trip_count.specs.declared.condition.Test.TheVariants.{Number, Compare, Other}
 use Rattle.trip_count.proofs.Chain.{Maybe, where_true, where_false, chain}
-use Rattle.trip_count.proofs.Shapes.{StartsUnder, shape_under}
+use Rattle.trip_count.proofs.PolynomialShapes.{StartsUnder, shape_under}
 
 abbrev pub IsInvariant : ℕ → Turns → Type 0
 IsInvariant x (Count n) = Unit {0}

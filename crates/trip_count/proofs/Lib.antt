@@ -1,12 +1,12 @@
-pub mod Shapes
+pub mod PolynomialShapes
 pub mod Chain
 pub mod Fitting
 pub mod Distances
 pub mod Predicates
-pub mod Lines
-pub mod Roots
-pub mod Steps
-pub mod Counting
+pub mod RecurrenceValues
+pub mod LinearRoots
+pub mod UnitSteps
+pub mod UnitCounts
 pub mod Trips
 pub mod Passed
 pub mod Exits

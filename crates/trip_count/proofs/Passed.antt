@@ -14,7 +14,7 @@ use Rattle.trip_count.specs.Failing.{IsLeastNumber, holds_of}
 use Rattle.trip_count.specs.Predicate.{swapped, is_less, is_unit_step}
 use Rattle.trip_count.specs.Turns.{IsGuarded, IsDistance}
 use Rattle.trip_count.specs.declared.answer.Turns.{Turns}
-use Rattle.trip_count.proofs.Counting.{counted_up, counted_down}
+use Rattle.trip_count.proofs.UnitCounts.{counted_up, counted_down}
 use Rattle.trip_count.proofs.Trips.{IsTrip}
 
 abbrev GoesByOne : ℕ → Pred → ℕ → Type 0

@@ -19,7 +19,7 @@ pub enum Recurrence<'a> {
 }
 
 /// The recurrence of an expression.
-#[tactic(auto, using(crate::proofs::Shapes::polynomial_of_ext, crate::proofs::Shapes::polynomial_of_num))]
+#[tactic(auto, using(crate::proofs::PolynomialShapes::polynomial_of_ext, crate::proofs::PolynomialShapes::polynomial_of_num))]
 pub fn recurrence_of<'a>(counter: Label, t: &'a Tree) -> Recurrence<'a>
     ensures { shape_shown result ≡ shape_of (variable_of true counter.0) (polynomial_of t.now) }
 {
@@ -59,7 +59,7 @@ fn recurrence_of_places<'a>(ts: &'a [Tree]) -> Recurrence<'a>
     }
 }
 
-#[tactic(auto, using(crate::proofs::Shapes::polynomial_of_ext, crate::proofs::Shapes::polynomial_of_num))]
+#[tactic(auto, using(crate::proofs::PolynomialShapes::polynomial_of_ext, crate::proofs::PolynomialShapes::polynomial_of_num))]
 fn start_and_step<'a>(start: &'a Tree, step: &Tree) -> Recurrence<'a>
     ensures { shape_shown result ≡ with_step (polynomial_of start.now) (polynomial_of step.now) }
 {
@@ -70,7 +70,7 @@ fn start_and_step<'a>(start: &'a Tree, step: &Tree) -> Recurrence<'a>
 }
 
 /// `a` and `b` where the recurrence is `a + b * n` with numbers.
-#[tactic(auto, using(crate::proofs::Shapes::polynomial_of_ext, crate::proofs::Shapes::polynomial_of_num))]
+#[tactic(auto, using(crate::proofs::PolynomialShapes::polynomial_of_ext, crate::proofs::PolynomialShapes::polynomial_of_num))]
 pub fn numeric(l: Recurrence<'_>) -> Option<(u64, u64)>
     ensures value { result ≡ numeric_of (shape_shown l.entry) }
     ensures fits { (M : ℕ) → Fits M (shape_shown l.entry)
@@ -87,7 +87,7 @@ pub fn numeric(l: Recurrence<'_>) -> Option<(u64, u64)>
 }
 
 /// The number where the recurrence is one.
-#[tactic(auto, using(crate::proofs::Shapes::polynomial_of_ext, crate::proofs::Shapes::polynomial_of_num))]
+#[tactic(auto, using(crate::proofs::PolynomialShapes::polynomial_of_ext, crate::proofs::PolynomialShapes::polynomial_of_num))]
 pub fn number(l: Recurrence<'_>) -> Option<u64>
     ensures value { result ≡ number_of (shape_shown l.entry) }
     ensures fits { (M : ℕ) → Fits M (shape_shown l.entry) → IfSome result (λ v. v < M) }

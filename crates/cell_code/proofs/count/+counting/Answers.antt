@@ -1,7 +1,7 @@
 use Rattle.std.proofs.Common.{arith}
 use Rattle.scev_tree.specs.Tree.{polynomials}
-use Rattle.scev_tree.proofs.Places.{ext_is}
-use Rattle.cell_code.proofs.Counting.{of_list, one_more, small, large, nested, whole}
+use Rattle.scev_tree.proofs.TreePlaces.{ext_is}
+use Rattle.cell_code.proofs.CellCounts.{of_list, one_more, small, large, nested, whole}
 use Rattle.cell_code.proofs.count.+counting.Goals as goal
 
 pub cells_of_places-loop-t-preserved : goal.cells_of_places-loop-t-preserved

@@ -1,6 +1,6 @@
 use Rattle.std.proofs.Common.{arith, ◌^◌}
 use Rattle.scev_tree.specs.Tree.{polynomial_of}
-use Rattle.cell_code.proofs.Few.{few}
+use Rattle.cell_code.proofs.FewCells.{few}
 use Rattle.cell_code.proofs.count.cells_of.Goals as goal
 
 pub returns-clause-exact : goal.returns-clause-exact

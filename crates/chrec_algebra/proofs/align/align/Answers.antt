@@ -1,6 +1,6 @@
 use Rattle.std.proofs.Common.{arith}
 use Rattle.chrec_algebra.proofs.Sides.{sides_left, sides_right, sides_both}
-use Rattle.scev_tree.proofs.Places.{ext_is, under_num, under_ext}
+use Rattle.scev_tree.proofs.TreePlaces.{ext_is, under_num, under_ext}
 use Rattle.chrec_algebra.proofs.align.align.Goals as goal
 
 pub returns-in-Ext-b : goal.returns-in-Ext-b

@@ -1,6 +1,6 @@
 use Rattle.std.proofs.Common.{arith, refl, false}
 use Rattle.std.proofs.lemmas.Bool.{both_ways}
-use Rattle.scev_tree.proofs.Ends.{from_true, from_false}
+use Rattle.scev_tree.proofs.GrowingLists.{from_true, from_false}
 use Rattle.chrec_algebra.proofs.NumberChains.{numbers_push, number_of}
 use Rattle.chrec_algebra.proofs.chains.are_numbers.Goals as goal
 

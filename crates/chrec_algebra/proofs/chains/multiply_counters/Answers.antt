@@ -2,11 +2,11 @@ use Rattle.std.proofs.Common.{arith, refl, ◌≡◌, ◌+◌, ◌-◌, ◌^◌,
 use Rattle.std.proofs.lemmas.Nat.{pow_pos}
 use Rattle.scev_tree.specs.Polynomial.{variable_of}
 use Rattle.scev_tree.specs.Tree.{polynomials}
-use Rattle.scev_tree.proofs.Rows.{len_is}
+use Rattle.scev_tree.proofs.ListedTrees.{len_is}
 use Rattle.chrec_algebra.specs.Numbers.{numbers}
 use Rattle.chrec_algebra.specs.Places.{AreRisen}
 use Rattle.chrec_algebra.proofs.NumberChains.{number_of, numbers_risen, row_of_place}
-use Rattle.chrec_algebra.proofs.Parts.{even_key}
+use Rattle.chrec_algebra.proofs.PlacewiseProducts.{even_key}
 use Rattle.chrec_algebra.proofs.RowsOfProducts.{rows_first, counter_rows_step}
 use Rattle.chrec_algebra.proofs.chains.multiply_counters.Goals as goal
 

@@ -1,4 +1,4 @@
-use Rattle.chrec_algebra.proofs.Values.{value_scaled}
+use Rattle.chrec_algebra.proofs.PolynomialValues.{value_scaled}
 use Rattle.chrec_algebra.proofs.Differences.{value_truncation}
 use Rattle.chrec_algebra.proofs.laws.values_of_multiples.Goals as goal
 

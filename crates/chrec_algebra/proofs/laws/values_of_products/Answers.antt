@@ -1,4 +1,4 @@
-use Rattle.chrec_algebra.proofs.Values.{value_product}
+use Rattle.chrec_algebra.proofs.PolynomialValues.{value_product}
 use Rattle.chrec_algebra.proofs.laws.values_of_products.Goals as goal
 
 pub returns : goal.returns

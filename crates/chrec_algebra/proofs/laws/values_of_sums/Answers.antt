@@ -1,4 +1,4 @@
-use Rattle.chrec_algebra.proofs.Values.{value_sum}
+use Rattle.chrec_algebra.proofs.PolynomialValues.{value_sum}
 use Rattle.chrec_algebra.proofs.Differences.{value_difference, value_negation}
 use Rattle.chrec_algebra.proofs.laws.values_of_sums.Goals as goal
 

@@ -1,8 +1,8 @@
 use Rattle.std.proofs.Common.{arith, refl, false, ◌≡◌, ◌≤◌, ◌*◌, length}
 use Rattle.std.proofs.lemmas.Bool.{both_ways}
 use Rattle.scev_tree.specs.Polynomial.{variable_of}
-use Rattle.scev_tree.proofs.Ends.{from_true, from_false}
-use Rattle.scev_tree.proofs.Places.{ext_is}
+use Rattle.scev_tree.proofs.GrowingLists.{from_true, from_false}
+use Rattle.scev_tree.proofs.TreePlaces.{ext_is}
 use Rattle.chrec_algebra.proofs.Splitting.{linear_of, linear_push, linear_nested, bent}
 use Rattle.chrec_algebra.proofs.lines.+linear.Goals as goal
 use Rattle.chrec_algebra.proofs.lines.+linear.Goals.{is_linear-else-rank-via-then-rank+else-len-gt2, is_linear-else-rank-via-else-rank}

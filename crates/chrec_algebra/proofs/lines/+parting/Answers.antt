@@ -1,6 +1,6 @@
 use Rattle.std.proofs.Common.{arith}
 use Rattle.scev_tree.specs.Polynomial.{variable_of}
-use Rattle.scev_tree.proofs.Places.{ext_is, under_num, under_ext}
+use Rattle.scev_tree.proofs.TreePlaces.{ext_is, under_num, under_ext}
 use Rattle.scev_tree.proofs.Scaled.{each_push}
 use Rattle.chrec_algebra.proofs.Splitting.{part_low, part_here, part_above}
 use Rattle.chrec_algebra.proofs.lines.+parting.Goals as goal

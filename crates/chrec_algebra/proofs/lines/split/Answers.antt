@@ -1,6 +1,6 @@
 use Rattle.std.proofs.Common.{refl, ◌^◌}
 use Rattle.std.proofs.lemmas.Nat.{pow_pos}
-use Rattle.scev_tree.proofs.Ends.{from_true}
+use Rattle.scev_tree.proofs.GrowingLists.{from_true}
 use Rattle.chrec_algebra.proofs.lines.split.Goals as goal
 
 pub returns : goal.returns

@@ -3,9 +3,9 @@ use Rattle.scev_tree.specs.Variable.{rank_of}
 use Rattle.std.proofs.lemmas.Nat.{pow_pos}
 use Rattle.scev_tree.specs.Polynomial.{ext, IsCanonical, variable_of}
 use Rattle.scev_tree.specs.Tree.{polynomial_of, polynomials}
-use Rattle.scev_tree.proofs.Rows.{polynomial_of_ext}
-use Rattle.scev_tree.proofs.Places.{places_canon, place_of, canon_of, under_of}
-use Rattle.chrec_algebra.proofs.Values.{height}
+use Rattle.scev_tree.proofs.ListedTrees.{polynomial_of_ext}
+use Rattle.scev_tree.proofs.TreePlaces.{places_canon, place_of, canon_of, under_of}
+use Rattle.chrec_algebra.proofs.PolynomialValues.{height}
 use Rattle.chrec_algebra.proofs.InPlace.{added_built, added_step, put_after, canon_taken, under_taken}
 use Rattle.chrec_algebra.proofs.Opening.{added_over}
 use Rattle.chrec_algebra.proofs.Heights.{below_height, height_of}

@@ -2,7 +2,7 @@ use Rattle.std.proofs.Common.{◌≡◌, ◌+◌, ◌*◌, ◌^◌, vec_len, max
 use Rattle.scev_tree.specs.Variable.{rank_of}
 use Rattle.scev_tree.specs.Tree.{polynomial_of, polynomials}
 use Rattle.chrec_algebra.specs.Onto.{AreAdded}
-use Rattle.chrec_algebra.proofs.Values.{height}
+use Rattle.chrec_algebra.proofs.PolynomialValues.{height}
 use Rattle.chrec_algebra.proofs.onto.+adding_onto.Given as goal
 
 abbrev pub decreases-add_onto : goal.decreases-add_onto

@@ -1,7 +1,7 @@
 use Rattle.std.proofs.Common.{◌≤◌, ◌⊎◌, List, length, subst}
 use Rattle.scev_tree.specs.declared.tree.Tree.{Tree}
 use Rattle.scev_tree.specs.Tree.{polynomials, EndsZero}
-use Rattle.scev_tree.proofs.Ends.{build_none, trim_first, from_true, from_false}
+use Rattle.scev_tree.proofs.GrowingLists.{build_none, trim_first, from_true, from_false}
 use Rattle.chrec_algebra.proofs.InPlace.{without_zero, alone, together}
 use Rattle.chrec_algebra.proofs.onto.+rebuild.Goals as goal
 

@@ -3,8 +3,8 @@ use Rattle.scev_tree.specs.Variable.{rank_of}
 use Rattle.std.proofs.lemmas.Nat.{pow_pos}
 use Rattle.scev_tree.specs.Polynomial.{ext, IsCanonical, variable_of}
 use Rattle.scev_tree.specs.Tree.{polynomial_of, polynomials}
-use Rattle.scev_tree.proofs.Rows.{polynomial_of_ext}
-use Rattle.scev_tree.proofs.Places.{places_canon}
+use Rattle.scev_tree.proofs.ListedTrees.{polynomial_of_ext}
+use Rattle.scev_tree.proofs.TreePlaces.{places_canon}
 use Rattle.chrec_algebra.specs.Onto.{IsAddedIn}
 use Rattle.chrec_algebra.specs.Numbers.{numbers}
 use Rattle.chrec_algebra.proofs.InPlace.{added_numbers}

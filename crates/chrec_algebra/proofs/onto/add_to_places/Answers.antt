@@ -1,5 +1,5 @@
 use Rattle.std.proofs.Common.{arith}
-use Rattle.scev_tree.proofs.Places.{canon_of, under_of, place_of}
+use Rattle.scev_tree.proofs.TreePlaces.{canon_of, under_of, place_of}
 use Rattle.chrec_algebra.proofs.InPlace.{added_step}
 use Rattle.chrec_algebra.proofs.onto.add_to_places.Goals as goal
 

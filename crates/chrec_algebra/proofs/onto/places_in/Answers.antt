@@ -1,5 +1,5 @@
 use Rattle.std.proofs.Common.{arith}
-use Rattle.scev_tree.proofs.Places.{ext_is, under_ext}
+use Rattle.scev_tree.proofs.TreePlaces.{ext_is, under_ext}
 use Rattle.chrec_algebra.proofs.Sides.{side_list, side_places}
 use Rattle.chrec_algebra.proofs.onto.places_in.Goals as goal
 

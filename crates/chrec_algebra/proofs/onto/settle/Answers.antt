@@ -1,9 +1,9 @@
 use Rattle.std.proofs.Common.{◌^◌, sym, subst}
 use Rattle.std.proofs.lemmas.Nat.{pow_pos}
 use Rattle.scev_tree.specs.Tree.{polynomial_of}
-use Rattle.scev_tree.proofs.Ends.{from_true}
+use Rattle.scev_tree.proofs.GrowingLists.{from_true}
 use Rattle.chrec_algebra.specs.Product.{IsAdded}
-use Rattle.chrec_algebra.proofs.Factors.{moved}
+use Rattle.chrec_algebra.proofs.NumberFactors.{moved}
 use Rattle.chrec_algebra.proofs.onto.settle.Goals as goal
 
 pub returns-then-is_zero : goal.returns-then-is_zero

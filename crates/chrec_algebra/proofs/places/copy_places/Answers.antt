@@ -1,5 +1,5 @@
 use Rattle.std.proofs.Common.{arith}
-use Rattle.scev_tree.proofs.Ends.{copy_push}
+use Rattle.scev_tree.proofs.GrowingLists.{copy_push}
 use Rattle.chrec_algebra.proofs.places.copy_places.Goals as goal
 
 pub loop-t-preserved : goal.loop-t-preserved

@@ -1,7 +1,7 @@
 use Rattle.std.proofs.Common.{arith, ap, ◌∙◌}
 use Rattle.scev_tree.specs.Tree.{polynomial_of, polynomials}
 use Rattle.scev_tree.specs.Polynomial.{ext}
-use Rattle.scev_tree.proofs.Rows.{polynomial_of_num, polynomial_of_ext}
+use Rattle.scev_tree.proofs.ListedTrees.{polynomial_of_num, polynomial_of_ext}
 use Rattle.chrec_algebra.proofs.Opening.{opened_places}
 use Rattle.chrec_algebra.proofs.places.open.Goals as goal
 

@@ -1,7 +1,7 @@
 use Rattle.std.proofs.Common.{arith, refl, ◌-◌, ◌<◌, length}
 use Rattle.std.proofs.lemmas.Nat.{pow_pos}
-use Rattle.scev_tree.proofs.Places.{canon_of, under_of, place_of}
-use Rattle.scev_tree.proofs.Ends.{past_list}
+use Rattle.scev_tree.proofs.TreePlaces.{canon_of, under_of, place_of}
+use Rattle.scev_tree.proofs.GrowingLists.{past_list}
 use Rattle.scev_tree.specs.Tree.{polynomials}
 use Rattle.chrec_algebra.proofs.InPlace.{canon_taken, put_after}
 use Rattle.chrec_algebra.proofs.Rising.{raised_step, raised_end, next_is}

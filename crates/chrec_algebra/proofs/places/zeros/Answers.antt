@@ -1,5 +1,5 @@
 use Rattle.std.proofs.Common.{arith}
-use Rattle.chrec_algebra.proofs.Parts.{zeros_empty, zeros_push}
+use Rattle.chrec_algebra.proofs.PlacewiseProducts.{zeros_empty, zeros_push}
 use Rattle.chrec_algebra.proofs.places.zeros.Goals as goal
 
 pub loop-k-init : goal.loop-k-init

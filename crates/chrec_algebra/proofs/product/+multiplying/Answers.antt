@@ -3,13 +3,13 @@ use Rattle.scev_tree.specs.Variable.{rank_of}
 use Rattle.std.proofs.lemmas.Nat.{pow_pos}
 use Rattle.scev_tree.specs.declared.tree.Tree.{Tree}
 use Rattle.scev_tree.specs.Tree.{polynomials, polynomial_of, len}
-use Rattle.scev_tree.proofs.Rows.{len_is, polynomial_of_num}
-use Rattle.scev_tree.proofs.Places.{canon_of, under_of, place_of}
+use Rattle.scev_tree.proofs.ListedTrees.{len_is, polynomial_of_num}
+use Rattle.scev_tree.proofs.TreePlaces.{canon_of, under_of, place_of}
 use Rattle.chrec_algebra.specs.Places.{AreRisen}
 use Rattle.chrec_algebra.proofs.InPlace.{canon_taken}
 use Rattle.chrec_algebra.proofs.Narrowing.{narrow_risen}
 use Rattle.chrec_algebra.proofs.NumberChains.{past_products}
-use Rattle.chrec_algebra.proofs.Parts.{narrow_of, even_of}
+use Rattle.chrec_algebra.proofs.PlacewiseProducts.{narrow_of, even_of}
 use Rattle.chrec_algebra.proofs.Rising.{risen_first}
 use Rattle.chrec_algebra.proofs.Heights.{below_height, sides_below}
 use Rattle.chrec_algebra.proofs.RowsOfProducts.{number_added_left, number_added_right, product_put, row_step, rows_first, counter_rows_step, plain_rows_step, added_in, chain_added, added_of_sides}

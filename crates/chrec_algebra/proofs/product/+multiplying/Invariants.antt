@@ -3,7 +3,7 @@ use Rattle.scev_tree.specs.Variable.{rank_of}
 use Rattle.scev_tree.specs.Tree.{polynomial_of, polynomials}
 use Rattle.chrec_algebra.specs.Places.{AreRisen}
 use Rattle.chrec_algebra.specs.Product.{AreRows, IsRow}
-use Rattle.chrec_algebra.proofs.Values.{height}
+use Rattle.chrec_algebra.proofs.PolynomialValues.{height}
 use Rattle.chrec_algebra.proofs.product.+multiplying.Given as goal
 
 abbrev pub decreases-add_product : goal.decreases-add_product

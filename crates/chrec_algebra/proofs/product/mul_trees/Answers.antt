@@ -1,7 +1,7 @@
 use Rattle.std.proofs.Common.{◌^◌, sym, subst}
 use Rattle.std.proofs.lemmas.Nat.{pow_pos}
 use Rattle.scev_tree.specs.Polynomial.{IsCanonical}
-use Rattle.scev_tree.proofs.Rows.{polynomial_of_num}
+use Rattle.scev_tree.proofs.ListedTrees.{polynomial_of_num}
 use Rattle.chrec_algebra.proofs.RowsOfProducts.{product_alone}
 use Rattle.chrec_algebra.proofs.product.mul_trees.Goals as goal
 

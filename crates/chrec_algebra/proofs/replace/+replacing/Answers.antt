@@ -3,11 +3,11 @@ use Rattle.std.proofs.lemmas.Nat.{pow_pos}
 use Rattle.scev_tree.specs.Polynomial.{variable_of, IsCanonical, AreCanonical, ext}
 use Rattle.scev_tree.specs.Tree.{weight, polynomial_of, polynomials}
 use Rattle.chrec_algebra.specs.Product.{Narrow}
-use Rattle.scev_tree.proofs.Rows.{len_is}
-use Rattle.scev_tree.proofs.Places.{ext_is, places_canon, under_num, under_ext}
-use Rattle.scev_tree.proofs.Places.{canon_of, lighter}
+use Rattle.scev_tree.proofs.ListedTrees.{len_is}
+use Rattle.scev_tree.proofs.TreePlaces.{ext_is, places_canon, under_num, under_ext}
+use Rattle.scev_tree.proofs.TreePlaces.{canon_of, lighter}
 use Rattle.scev_tree.proofs.Scaled.{each_push}
-use Rattle.chrec_algebra.proofs.Parts.{narrow_of}
+use Rattle.chrec_algebra.proofs.PlacewiseProducts.{narrow_of}
 use Rattle.chrec_algebra.proofs.Replacements.{at_low, at_here, at_above}
 use Rattle.chrec_algebra.proofs.replace.+replacing.Goals as goal
 

@@ -1,7 +1,7 @@
 use Rattle.std.proofs.Common.{◌^◌, true, ap, ◌%◌, ◌∙◌}
 use Rattle.std.proofs.Math.Nat.{mod-mod}
 use Rattle.scev_tree.specs.Polynomial.{variable_of}
-use Rattle.scev_tree.proofs.Places.{canon_of}
+use Rattle.scev_tree.proofs.TreePlaces.{canon_of}
 use Rattle.std.proofs.lemmas.Nat.{pow_pos}
 use Rattle.chrec_algebra.proofs.Replacements.{combined_first, combined_step}
 use Rattle.chrec_algebra.proofs.replace.combine.Goals as goal

@@ -2,7 +2,7 @@ use Rattle.std.proofs.Common.{arith, ◌^◌}
 use Rattle.scev_tree.specs.Variable.{rank_of}
 use Rattle.std.proofs.lemmas.Nat.{pow_pos}
 use Rattle.chrec_algebra.proofs.Additions.{right_here, left_here, both_here, sums_push, sums_built}
-use Rattle.scev_tree.proofs.Places.{canon_of, lighter}
+use Rattle.scev_tree.proofs.TreePlaces.{canon_of, lighter}
 use Rattle.chrec_algebra.proofs.sum.+adding.Goals as goal
 
 pub add_place-returns-then-k-ps : goal.add_place-returns-then-k-ps

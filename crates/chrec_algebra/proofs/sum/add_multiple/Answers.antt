@@ -1,8 +1,8 @@
 use Rattle.std.proofs.Common.{ap, ◌∙◌, ◌^◌}
 use Rattle.std.proofs.lemmas.Nat.{pow_pos}
 use Rattle.scev_tree.specs.Tree.{polynomial_of}
-use Rattle.scev_tree.proofs.Rows.{polynomial_of_num}
-use Rattle.chrec_algebra.proofs.Parts.{num_added}
+use Rattle.scev_tree.proofs.ListedTrees.{polynomial_of_num}
+use Rattle.chrec_algebra.proofs.PlacewiseProducts.{num_added}
 use Rattle.chrec_algebra.proofs.sum.add_multiple.Goals as goal
 
 pub returns-in-Num-t : goal.returns-in-Num-t

@@ -1,5 +1,5 @@
 use Rattle.scev_tree.specs.Tree.{polynomial_of}
-use Rattle.chrec_algebra.proofs.Parts.{added_more}
+use Rattle.chrec_algebra.proofs.PlacewiseProducts.{added_more}
 use Rattle.chrec_algebra.proofs.sum.add_nested_multiple.Goals as goal
 
 pub returns : goal.returns

@@ -5,9 +5,9 @@ use Rattle.scev_tree.specs.Tree.{polynomial_of, weight}
 use Rattle.scev_tree.specs.Value.{numbers}
 use Rattle.chrec_algebra.specs.Entries.{number_in}
 use Rattle.chrec_algebra.specs.Product.{Narrow}
-use Rattle.scev_tree.proofs.Rows.{polynomial_of_num, len_is}
-use Rattle.scev_tree.proofs.Places.{ext_is, lighter}
-use Rattle.chrec_algebra.proofs.Parts.{narrow_of}
+use Rattle.scev_tree.proofs.ListedTrees.{polynomial_of_num, len_is}
+use Rattle.scev_tree.proofs.TreePlaces.{ext_is, lighter}
+use Rattle.chrec_algebra.proofs.PlacewiseProducts.{narrow_of}
 use Rattle.chrec_algebra.proofs.Valuing.{number_value, nested_value, values_first, values_step, values_end, worth_is}
 use Rattle.chrec_algebra.proofs.valued.+valuing.Goals as goal
 

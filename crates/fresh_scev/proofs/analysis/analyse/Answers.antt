@@ -8,7 +8,7 @@ use Rattle.fresh_scev.specs.Linear.{Linear}
 use Rattle.fresh_scev.specs.Table.{IsTable}
 use Rattle.fresh_scev.specs.Values.{value}
 use Rattle.fresh_scev.proofs.Knowing.{knows}
-use Rattle.fresh_scev.proofs.Rows.{table}
+use Rattle.fresh_scev.proofs.FactTable.{table}
 use Rattle.fresh_scev.proofs.Runners.{runs}
 use Rattle.fresh_scev.proofs.analysis.analyse.Goals as goal
 use Rattle.fresh_scev.proofs.analysis.analyse.Goals.{in-Some+in_ok-push_items, in_default}

@@ -1,6 +1,6 @@
 use Rattle.std.proofs.Common.{arith, [], ◌^◌}
 use Rattle.fresh_scev.specs.Fresh.{with_ops}
-use Rattle.fresh_scev.proofs.Walks.{ops_more, labels_more}
+use Rattle.fresh_scev.proofs.FactGrowth.{ops_more, labels_more}
 use Rattle.fresh_scev.proofs.analysis.item_exprs.Goals as goal
 
 pub loop-op-preserved : goal.loop-op-preserved

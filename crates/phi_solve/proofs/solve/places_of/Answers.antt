@@ -1,9 +1,9 @@
 use Rattle.std.proofs.Common.{arith, subst, ◌∙◌, ap, suc, ◌*◌}
 use Rattle.scev_tree.specs.Polynomial.{Under}
 use Rattle.scev_tree.specs.Tree.{polynomial_of}
-use Rattle.phi_solve.proofs.Steps.{side_list, side_places}
-use Rattle.scev_tree.proofs.Places.{ext_is, under_num, under_ext}
-use Rattle.scev_tree.proofs.Rows.{polynomial_of_ext}
+use Rattle.phi_solve.proofs.StepTrees.{side_list, side_places}
+use Rattle.scev_tree.proofs.TreePlaces.{ext_is, under_num, under_ext}
+use Rattle.scev_tree.proofs.ListedTrees.{polynomial_of_ext}
 use Rattle.phi_solve.proofs.solve.places_of.Goals as goal
 
 pub returns-in-Num : goal.returns-in-Num

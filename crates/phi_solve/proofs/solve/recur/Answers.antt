@@ -2,10 +2,10 @@ use Rattle.std.proofs.Common.{arith, refl, ap, ◌∙◌, ◌^◌, inl, inr}
 use Rattle.std.proofs.lemmas.Nat.{pow_below}
 use Rattle.scev_tree.specs.Tree.{polynomial_of}
 use Rattle.scev_tree.specs.Polynomial.{variable_of}
-use Rattle.scev_tree.proofs.Rows.{polynomial_of_num, polynomial_of_ext}
-use Rattle.scev_tree.proofs.Places.{ext_is}
-use Rattle.scev_tree.proofs.Ends.{from_true, from_false}
-use Rattle.phi_solve.proofs.Steps.{not_num, not_var, not_one, not_low, not_count, canon_first, step_found}
+use Rattle.scev_tree.proofs.ListedTrees.{polynomial_of_num, polynomial_of_ext}
+use Rattle.scev_tree.proofs.TreePlaces.{ext_is}
+use Rattle.scev_tree.proofs.GrowingLists.{from_true, from_false}
+use Rattle.phi_solve.proofs.StepTrees.{not_num, not_var, not_one, not_low, not_count, canon_first, step_found}
 use Rattle.phi_solve.proofs.solve.recur.Goals as goal
 use Rattle.phi_solve.proofs.solve.recur.Goals.{in_default-via-then-as_slice-lt2, in_default-via-else-as_slice-lt2+else-this-lt3}
 

@@ -1,8 +1,8 @@
 use Rattle.std.proofs.Common.{arith, refl, ◌^◌}
 use Rattle.std.proofs.lemmas.Nat.{pow_pos}
 use Rattle.scev_tree.specs.Tree.{polynomial_of}
-use Rattle.scev_tree.proofs.Ends.{push_after}
-use Rattle.phi_solve.proofs.Steps.{chain_built}
+use Rattle.scev_tree.proofs.GrowingLists.{push_after}
+use Rattle.phi_solve.proofs.StepTrees.{chain_built}
 use Rattle.phi_solve.proofs.solve.sum_over_turns.Goals as goal
 
 pub loop-t-preserved : goal.loop-t-preserved

@@ -1,6 +1,6 @@
 use Rattle.std.proofs.Common.{arith, ◌^◌}
 use Rattle.std.proofs.lemmas.Nat.{pow_pos}
-use Rattle.phi_solve.proofs.Around.{around_canonical, low_of}
+use Rattle.phi_solve.proofs.TestedPlaces.{around_canonical, low_of}
 use Rattle.phi_solve.proofs.tests.around.Goals as goal
 
 pub invariant_of-result : goal.invariant_of-result

@@ -1,6 +1,6 @@
 -- The replies stand behind the `/`.
 use Rattle.scev_script.specs.Commands.{is_slash}
-use Rattle.scev_script.proofs.Lists.{after_map}
+use Rattle.scev_script.proofs.ByteLists.{after_map}
 use Rattle.scev_script.proofs.commands.arguments_and_replies.Goals as goal
 
 pub returns-in-Some-clause-behind : goal.returns-in-Some-clause-behind

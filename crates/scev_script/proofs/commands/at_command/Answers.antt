@@ -1,5 +1,5 @@
 -- Fewer than two words.
-use Rattle.scev_script.proofs.Shapes.{at_short}
+use Rattle.scev_script.proofs.CommandShapes.{at_short}
 use Rattle.scev_script.proofs.commands.at_command.Goals as goal
 
 pub returns-in_default : goal.returns-in_default

@@ -1,5 +1,5 @@
 use Rattle.std.proofs.Common.{◌++◌, string_bytes, subst, sym, append_assoc, refl, rules, arith, ◌≡◌, get_or, ◌<◌, length}
-use Rattle.scev_server.proofs.Walks.{Parted, parts_more, part_text}
+use Rattle.scev_server.proofs.SessionWalks.{Parted, parts_more, part_text}
 use Rattle.scev_server.proofs.session.push_parts.Goals as goal
 
 pub loop-at-preserved : goal.loop-at-preserved

@@ -1,5 +1,5 @@
 use Rattle.std.proofs.Common.{take, string_bytes}
-use Rattle.scev_server.proofs.Walks.{Parted}
+use Rattle.scev_server.proofs.SessionWalks.{Parted}
 use Rattle.scev_server.proofs.session.push_parts.Given as goal
 
 abbrev pub invariant-loop-at : goal.invariant-loop-at

@@ -1,5 +1,5 @@
 use Rattle.std.proofs.Common.{take, string_bytes}
-use Rattle.scev_server.proofs.Walks.{Walked}
+use Rattle.scev_server.proofs.SessionWalks.{Walked}
 use Rattle.scev_server.proofs.session.push_walk.Given as goal
 
 abbrev pub invariant-loop-at : goal.invariant-loop-at

@@ -1,5 +1,5 @@
 use Rattle.std.proofs.Common.{arith}
-use Rattle.scev_tree.proofs.Ends.{build_from, build_one, build_none, only_is, none_is}
+use Rattle.scev_tree.proofs.GrowingLists.{build_from, build_one, build_none, only_is, none_is}
 use Rattle.scev_tree.proofs.assemble.build.Goals as goal
 
 pub returns-then-len-gt1 : goal.returns-then-len-gt1

@@ -1,4 +1,4 @@
-use Rattle.scev_tree.proofs.Ends.{last_zero, last_nonzero, from_true, from_false}
+use Rattle.scev_tree.proofs.GrowingLists.{last_zero, last_nonzero, from_true, from_false}
 use Rattle.scev_tree.proofs.assemble.ends_in_zero.Goals as goal
 
 pub returns-in-len1-up-clause-zero : goal.returns-in-len1-up-clause-zero

@@ -1,5 +1,5 @@
 use Rattle.std.proofs.Common.{arith, ◌≡◌, ◌-◌, ap, ◌∙◌, length, take}
-use Rattle.scev_tree.proofs.Ends.{trim_to}
+use Rattle.scev_tree.proofs.GrowingLists.{trim_to}
 use Rattle.scev_tree.specs.Tree.{EndsZero, polynomials}
 use Rattle.scev_tree.proofs.assemble.trim.Goals as goal
 

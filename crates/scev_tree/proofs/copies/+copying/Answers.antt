@@ -1,5 +1,5 @@
 use Rattle.std.proofs.Common.{arith}
-use Rattle.scev_tree.proofs.Ends.{copy_push}
+use Rattle.scev_tree.proofs.GrowingLists.{copy_push}
 use Rattle.scev_tree.proofs.copies.+copying.Goals as goal
 
 pub copy_all-loop-t-preserved : goal.copy_all-loop-t-preserved

@@ -1,5 +1,5 @@
 use Rattle.std.proofs.Common.{arith, refl}
-use Rattle.scev_tree.proofs.Places.{ext_is}
+use Rattle.scev_tree.proofs.TreePlaces.{ext_is}
 use Rattle.scev_tree.proofs.Comparing.{equal_numbers, differ_left, differ_right, equal_nested, differ_nested, differ_length, differ_at, equal_step, equal, unequal}
 use Rattle.scev_tree.proofs.equal.+comparing.Goals as goal
 

@@ -1,4 +1,4 @@
-use Rattle.scev_tree.proofs.Counting.{has_monomials, degree_bound, has_degree}
+use Rattle.scev_tree.proofs.CoefficientSizes.{has_monomials, degree_bound, has_degree}
 use Rattle.scev_tree.proofs.laws.sizes_are_those_of_coefficients.Goals as goal
 
 pub returns : goal.returns

@@ -1,6 +1,6 @@
 use Rattle.std.proofs.Common.{arith, ◌^◌, ◌-◌}
 use Rattle.scev_tree.specs.Tree.{polynomial_of}
-use Rattle.scev_tree.proofs.Places.{ext_is}
+use Rattle.scev_tree.proofs.TreePlaces.{ext_is}
 use Rattle.scev_tree.proofs.Sizes.{degree_ext, degrees_more, degree_capped}
 use Rattle.scev_tree.proofs.measure.+grading.Goals as goal
 

@@ -1,5 +1,5 @@
 use Rattle.std.proofs.Common.{arith}
-use Rattle.scev_tree.proofs.Places.{ext_is}
+use Rattle.scev_tree.proofs.TreePlaces.{ext_is}
 use Rattle.scev_tree.proofs.Sizes.{size_num, size_ext, sizes_more}
 use Rattle.scev_tree.proofs.measure.+sizing.Goals as goal
 

@@ -2,9 +2,9 @@ use Rattle.std.proofs.Common.{arith, ◌^◌, ap, subst}
 use Rattle.std.proofs.lemmas.Nat.{pow_pos}
 use Rattle.scev_tree.specs.Polynomial.{variable_of, IsCanonical}
 use Rattle.scev_tree.specs.Tree.{weight, polynomial_of}
-use Rattle.scev_tree.proofs.Rows.{polynomial_of_num}
-use Rattle.scev_tree.proofs.Places.{ext_is, places_canon}
-use Rattle.scev_tree.proofs.Places.{canon_of, lighter}
+use Rattle.scev_tree.proofs.ListedTrees.{polynomial_of_num}
+use Rattle.scev_tree.proofs.TreePlaces.{ext_is, places_canon}
+use Rattle.scev_tree.proofs.TreePlaces.{canon_of, lighter}
 use Rattle.scev_tree.proofs.Scaled.{scaled_ext, scaled_num, each_push}
 use Rattle.std.proofs.Common.{◌∙◌}
 use Rattle.scev_tree.proofs.scaling.+scaling.Goals as goal

@@ -1,4 +1,4 @@
-use Rattle.scev_tree.proofs.Places.{main_number, main_nested}
+use Rattle.scev_tree.proofs.TreePlaces.{main_number, main_nested}
 use Rattle.scev_tree.proofs.tree.main_var.Goals as goal
 
 pub returns-in-Num : goal.returns-in-Num

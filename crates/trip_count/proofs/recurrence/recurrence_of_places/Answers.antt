@@ -1,4 +1,4 @@
-use Rattle.trip_count.proofs.Shapes.{not_two}
+use Rattle.trip_count.proofs.PolynomialShapes.{not_two}
 use Rattle.trip_count.proofs.recurrence.recurrence_of_places.Goals as goal
 
 pub returns-else-ts-eq2 : goal.returns-else-ts-eq2

@@ -3,7 +3,7 @@ use Rattle.std.proofs.lemmas.Nat.{pow_pos}
 use Rattle.scev_tree.specs.Polynomial.{IsCanonical, variable_of}
 use Rattle.scev_tree.specs.Tree.{polynomial_of}
 use Rattle.trip_count.specs.Shape.{Fits}
-use Rattle.trip_count.proofs.Shapes.{shape_fits}
+use Rattle.trip_count.proofs.PolynomialShapes.{shape_fits}
 use Rattle.trip_count.proofs.solve.compared.Goals as goal
 
 pub exit_of-exit-requires-clause-left : goal.exit_of-exit-requires-clause-left

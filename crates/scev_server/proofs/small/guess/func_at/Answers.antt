@@ -1,7 +1,7 @@
 use Rattle.std.proofs.Common.{ap, ◌∙◌}
 use Rattle.scev_server.specs.Guess.{name_of, behind_arrow}
 use Rattle.scev_server.specs.Scope.{label_in}
-use Rattle.scev_server.proofs.Parts.{func_is}
+use Rattle.scev_server.proofs.InputParts.{func_is}
 use Rattle.scev_server.proofs.small.guess.func_at.Goals as goal
 
 pub returns : goal.returns

@@ -1,8 +1,8 @@
 use Rattle.std.proofs.Common.{◌≡◌, ℕ, ap, sym, ◌∙◌, arith, refl, drop}
 use Rattle.scev_server.specs.Guess.{item_of, item_size, item_label, shape_size, begins, word}
 use Rattle.scev_server.specs.Scope.{label_in}
-use Rattle.scev_server.proofs.Rows.{defs_next, defs_done_full, defs_done_over}
-use Rattle.scev_server.proofs.Parts.{define_is}
+use Rattle.scev_server.proofs.ReadingSteps.{defs_next, defs_done_full, defs_done_over}
+use Rattle.scev_server.proofs.InputParts.{define_is}
 use Rattle.scev_server.proofs.small.guess.items_at.Goals as goal
 use Rattle.scev_server.proofs.small.guess.items_at.Goals.{then-loop-words-test+else-begins_with, else-loop-words-test}
 

@@ -1,7 +1,7 @@
 use Rattle.std.proofs.Common.{◌≡◌, ◌+◌, ◌-◌, ◌≤◌, vec_len}
 use Rattle.scev_server.specs.Scope.{label_in}
 use Rattle.scev_server.specs.Guess.{items_of}
-use Rattle.scev_server.proofs.Rows.{before_defs}
+use Rattle.scev_server.proofs.ReadingSteps.{before_defs}
 use Rattle.scev_server.proofs.small.guess.items_at.Given as goal
 
 abbrev pub invariant-loop-words : goal.invariant-loop-words

@@ -1,6 +1,6 @@
 use Rattle.std.proofs.Common.{◌≡◌, ap, sym, ◌∙◌, arith}
 use Rattle.scev_server.specs.Guess.{type_of, begins, word}
-use Rattle.scev_server.proofs.Rows.{row_next, row_done_full, row_done_over}
+use Rattle.scev_server.proofs.ReadingSteps.{row_next, row_done_full, row_done_over}
 use Rattle.scev_server.proofs.small.guess.types_at.Goals as goal
 use Rattle.scev_server.proofs.small.guess.types_at.Goals.{then-loop-words-test+else-begins_with, else-loop-words-test}
 

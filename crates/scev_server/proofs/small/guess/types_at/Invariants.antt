@@ -1,6 +1,6 @@
 use Rattle.std.proofs.Common.{◌≡◌, ◌-◌, ◌≤◌, vec_len}
 use Rattle.scev_server.specs.Guess.{row_of, type_of}
-use Rattle.scev_server.proofs.Rows.{before_row}
+use Rattle.scev_server.proofs.ReadingSteps.{before_row}
 use Rattle.scev_server.proofs.small.guess.types_at.Given as goal
 
 abbrev pub invariant-loop-words : goal.invariant-loop-words

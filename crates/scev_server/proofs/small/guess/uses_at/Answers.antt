@@ -1,7 +1,7 @@
 use Rattle.std.proofs.Common.{◌≡◌, ap, sym, ◌∙◌, arith}
 use Rattle.scev_server.specs.Guess.{use_of, begins, word}
 use Rattle.scev_server.specs.Scope.{label_in}
-use Rattle.scev_server.proofs.Rows.{row_next, row_done_full, row_done_over}
+use Rattle.scev_server.proofs.ReadingSteps.{row_next, row_done_full, row_done_over}
 use Rattle.scev_server.proofs.small.guess.uses_at.Goals as goal
 use Rattle.scev_server.proofs.small.guess.uses_at.Goals.{then-loop-words-test+else-begins_with, else-loop-words-test}
 

@@ -1,7 +1,7 @@
 use Rattle.std.proofs.Common.{◌≡◌, ◌-◌, ◌≤◌, vec_len}
 use Rattle.scev_server.specs.Scope.{label_in}
 use Rattle.scev_server.specs.Guess.{row_of, use_of}
-use Rattle.scev_server.proofs.Rows.{before_row}
+use Rattle.scev_server.proofs.ReadingSteps.{before_row}
 use Rattle.scev_server.proofs.small.guess.uses_at.Given as goal
 
 abbrev pub invariant-loop-words : goal.invariant-loop-words

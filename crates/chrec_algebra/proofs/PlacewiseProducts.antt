@@ -8,9 +8,9 @@ use Rattle.scev_tree.specs.Polynomial.{Polynomial, num, Power, coefficient, plac
 use Rattle.chrec_algebra.specs.Sum.{IsSum, IsTruncated}
 use Rattle.chrec_algebra.specs.Product.{IsAdded, IsPut, AreZeros, Narrow, NarrowAll}
 use Rattle.scev_tree.specs.Tree.{polynomials, polynomial_of}
-use Rattle.scev_tree.proofs.Rows.{polynomial_of_num}
-use Rattle.scev_tree.proofs.Ends.{snoc_below, snoc_last, canon_snoc, past_list, zero_coeff}
-use Rattle.scev_tree.proofs.Places.{place_of}
+use Rattle.scev_tree.proofs.ListedTrees.{polynomial_of_num}
+use Rattle.scev_tree.proofs.GrowingLists.{snoc_below, snoc_last, canon_snoc, past_list, zero_coeff}
+use Rattle.scev_tree.proofs.TreePlaces.{place_of}
 use Rattle.chrec_algebra.proofs.Products.{add_same}
 
 -- ---- multiples

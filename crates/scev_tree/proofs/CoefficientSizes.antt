@@ -4,7 +4,7 @@ use Rattle.std.proofs.lemmas.Bool.{eq-eqb, ne_eqb, cases_order, cases_lt, cases_
 use Rattle.scev_tree.specs.Measure.{monomials, monomials_in, total_degree, total_degree_from}
 use Rattle.scev_tree.specs.Polynomial.{Polynomial, Polynomials, num, ext, none, more, Power, power, with_power, coefficient, place, IsMonomial, Under, IsNonzero, EndsNonzero, IsCanonical, AreCanonical}
 use Rattle.scev_tree.specs.Support.{degree_of, In, AreDistinct, HasMonomials, HasDegree}
-use Rattle.scev_tree.proofs.Places.{high_place}
+use Rattle.scev_tree.proofs.TreePlaces.{high_place}
 use Rattle.scev_tree.proofs.Unique.{above, raised}
 
 -- ---- monomials in x and what is below it

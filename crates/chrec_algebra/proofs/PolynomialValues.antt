@@ -5,7 +5,7 @@ use Rattle.std.proofs.Math.Nat.{mod-mod}
 use Rattle.std.proofs.lemmas.Nat.{pow-add}
 use Rattle.std.proofs.Math.Nat.{pow-zero}
 use Rattle.scev_binom.proofs.Products.{total, products}
-use Rattle.scev_tree.proofs.Places.{past_end, high_place}
+use Rattle.scev_tree.proofs.TreePlaces.{past_end, high_place}
 use Rattle.arith_word.specs.Binomial.{binomial}
 use Rattle.scev_binom.specs.Binomial.{product_coefficient}
 use Rattle.scev_tree.specs.Polynomial.{Polynomial, Polynomials, num, ext, none, more, Power, power, coefficient, place, IsMonomial, Under, IsCanonical, AreCanonical, IsScaled}
@@ -16,6 +16,7 @@ use Rattle.scev_tree.specs.Tree.{len}
 use Rattle.scev_tree.specs.Value.{worth, value, values}
 use Rattle.scev_tree.proofs.Unique.{above, raised}
 use Rattle.chrec_algebra.proofs.Products.{mul_same, sum_mod, sum_same, sum_zero, sum_bound, times_counter, times_symbol, times_other, times_outside, times_first}
+use Rattle.chrec_algebra.proofs.ZeroProducts.{times_zero, zero_times}
 
 -- ---- sums
 
@@ -43,12 +44,6 @@ sum_only (suc n) k f h z = elim (cases_eq k n) [
   | inl e ↦ (let s = sum_zero n f (λ i lt. z i (λ q. omega arith)) in let q : f k ≡ f n = ap f e in omega arith)
   | inr ne ↦ (let s = sum_only n k f (omega arith) z in let q = z n (λ e. ne (sym e)) in omega arith)
 ]
-
-times_zero : (a b : ℕ) → b ≡ 0 → a * b ≡ 0
-times_zero a b e = ap (λ x. a * x) e ∙ omega arith
-
-zero_times : (a b : ℕ) → a ≡ 0 → a * b ≡ 0
-zero_times a b e = ap (λ x. x * b) e ∙ omega arith
 
 -- ---- the value of a coefficient function, in the variables below top with exponents below d
 

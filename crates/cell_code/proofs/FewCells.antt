@@ -8,7 +8,7 @@ use Rattle.scev_tree.specs.Measure.{monomials, monomials_in, is_zero, total_degr
 use Rattle.step_core.specs.Parts.{tree_part}
 use Rattle.step_core.proofs.Injective.{small_number, large_number}
 use Rattle.cell_code.specs.Count.{cells_in, cells_in_places}
-use Rattle.cell_code.proofs.Counting.{of_list}
+use Rattle.cell_code.proofs.CellCounts.{of_list}
 
 number_cells : (v : ℕ) → cells_in (tree_part (num v)) ≤ 2
 number_cells v = ⊎_elim

@@ -6,7 +6,7 @@ use Rattle.scev_tree.specs.Polynomial.{Polynomial, Polynomials, num, ext, none, 
 use Rattle.scev_tree.specs.Value.{value, values, worth, with_value}
 use Rattle.scev_tree.proofs.Agreeing.{value_same, worth_zero, worth_one}
 use Rattle.trip_count.specs.Shape.{Shape, affine, symbolic_step, moving, shape_of_places, shape_of, numeric, number, Fits}
-use Rattle.trip_count.proofs.Shapes.{shape_cases}
+use Rattle.trip_count.proofs.PolynomialShapes.{shape_cases}
 
 -- what is below the counter is the same in each iteration
 same_below : (env : ℕ → ℕ) (x n M : ℕ) (p : Polynomial) → Under p x → IsCanonical M p → value (with_value env x n) p ≡ value env p

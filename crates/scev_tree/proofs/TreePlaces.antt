@@ -5,7 +5,7 @@ use Rattle.scev_tree.specs.declared.tree.Tree.{Tree, Num, Ext}
 use Rattle.arith_word.specs.declared.label.Label.{Label}
 use Rattle.scev_tree.specs.Polynomial.{Polynomial, Polynomials, num, ext, none, more, Power, coefficient, place, with_power, IsMonomial, Under, IsCanonical, AreCanonical, variable_of}
 use Rattle.scev_tree.specs.Tree.{polynomial_of, polynomials, weight, weights, len}
-use Rattle.scev_tree.proofs.Rows.{polynomial_of_ext, polynomial_of_num, place_is, weight_of}
+use Rattle.scev_tree.proofs.ListedTrees.{polynomial_of_ext, polynomial_of_num, place_is, weight_of}
 
 mutual
   pub fits : (M : ℕ) (p : Polynomial) (m : List Power) → 0 < M → IsCanonical M p → coefficient p m < M

@@ -5,7 +5,7 @@ use Rattle.scev_tree.specs.declared.tree.Tree.{Tree, Num}
 use Rattle.scev_tree.specs.Polynomial.{Polynomial, Under, IsCanonical, AreCanonical}
 use Rattle.scev_tree.specs.Tree.{polynomial_of, polynomials}
 use Rattle.scev_tree.proofs.Leaves.{number_canonical}
-use Rattle.scev_tree.proofs.Places.{under_num}
+use Rattle.scev_tree.proofs.TreePlaces.{under_num}
 
 pub around_canonical : (w x m n f s : ℕ) (t : Tree) (us vs ys zs : List Tree) → m + 1 ≡ 2 ^ w → n + 1 ≡ 2 ^ w → us ≡ [] → vs ≡ us ++ t ∷ [] → ys ≡ vs ++ Num (bit_and f m) ∷ [] → zs ≡ ys ++ Num (bit_and s n) ∷ [] → Under (polynomial_of t) x → IsCanonical (2 ^ w) (polynomial_of t) → AreCanonical (2 ^ w) (polynomials zs) x
 around_canonical w x m n f s t us vs ys zs em en eu ev ey ez u c =

@@ -5,7 +5,7 @@ use Rattle.scev_tree.specs.declared.tree.Tree.{Tree}
 use Rattle.scev_tree.specs.Polynomial.{Polynomial, Polynomials, num, ext, none, more, Under, IsCanonical}
 use Rattle.scev_tree.specs.Tree.{polynomials}
 use Rattle.trip_count.specs.Shape.{Shape, affine, symbolic_step, moving, shape_of_places, shape_of, Fits}
-pub use Rattle.scev_tree.proofs.Rows.{polynomial_of_ext, polynomial_of_num}
+pub use Rattle.scev_tree.proofs.ListedTrees.{polynomial_of_ext, polynomial_of_num}
 
 pub not_two : (ts : List Tree) → (length ts ≡ 2 → ⊥) → moving ≡ shape_of_places (polynomials ts)
 not_two [] h = refl

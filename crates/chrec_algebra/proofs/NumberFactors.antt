@@ -4,11 +4,12 @@ use Rattle.std.proofs.lemmas.Bool.{cases_lt, cases_eq}
 use Rattle.std.proofs.Math.Nat.{mod-eq_of_lt}
 use Rattle.scev_binom.specs.Binomial.{product_coefficient}
 use Rattle.scev_tree.specs.Polynomial.{Polynomial, num, Power, power, with_power, coefficient, IsMonomial, IsCanonical}
-use Rattle.scev_tree.proofs.Places.{fits}
-use Rattle.scev_tree.proofs.Ends.{zero_coeff}
+use Rattle.scev_tree.proofs.TreePlaces.{fits}
+use Rattle.scev_tree.proofs.GrowingLists.{zero_coeff}
 use Rattle.chrec_algebra.specs.Product.{times, sum_to, product_at, IsAdded}
 use Rattle.chrec_algebra.proofs.Products.{sum_same, sum_zero, times_counter, times_symbol, times_outside, none_left, none_right}
-use Rattle.chrec_algebra.proofs.Values.{sum_only}
+use Rattle.chrec_algebra.proofs.PolynomialValues.{sum_only}
+use Rattle.chrec_algebra.proofs.ZeroProducts.{times_zero, zero_times}
 
 first_left : (j : ℕ) → product_coefficient 0 j j ≡ 1
 first_left zero = refl
@@ -23,12 +24,6 @@ times_left x j = elim (cases_eq (x % 2) 0) [ inl e ↦ times_counter x 0 j j e �
 
 pub times_right : (x i : ℕ) → times x i 0 i ≡ 1
 times_right x i = elim (cases_eq (x % 2) 0) [ inl e ↦ times_counter x i 0 i e ∙ first_right i | inr ne ↦ times_symbol x i 0 i ne (omega arith) ]
-
-times_zero : (a b : ℕ) → b ≡ 0 → a * b ≡ 0
-times_zero a b e = ap (λ x. a * x) e ∙ omega arith
-
-zero_times : (a b : ℕ) → a ≡ 0 → a * b ≡ 0
-zero_times a b e = ap (λ x. x * b) e ∙ omega arith
 
 one_times : (a b c : ℕ) → a ≡ 1 → b ≡ c → a * b ≡ c
 one_times a b c e f = ap (λ x. x * b) e ∙ omega (arith, f)

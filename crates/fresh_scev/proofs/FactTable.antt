@@ -29,9 +29,9 @@ use Rattle.fresh_scev.specs.Straight.{holds_no_region, item_holds_no_region, is_
 use Rattle.fresh_scev.specs.Table.{IsRow, AreRows, RowsOfOps, RowsOfItems, RowsOfArgs, IsTable}
 use Rattle.fresh_scev.proofs.Knowing.{Knows, AreResults, results_are, knows_results, knows_ops, knows_args, no_values}
 use Rattle.fresh_scev.proofs.Limits.{left_none, right_none, keeps, limits, packs, HavePacks, ItemsHavePacks}
-use Rattle.fresh_scev.proofs.Places.{expr_at-next, expr_at-next_none, expr_at-other, expr_at-empty, expr_at-nothing}
+use Rattle.fresh_scev.proofs.LabelPlaces.{expr_at-next, expr_at-next_none, expr_at-other, expr_at-empty, expr_at-nothing}
 use Rattle.fresh_scev.proofs.Runners.{no_labels}
-use Rattle.fresh_scev.proofs.Walks.{length-with_result, length-with_results}
+use Rattle.fresh_scev.proofs.FactGrowth.{length-with_result, length-with_results}
 
 -- what is known stays known
 pub record Extends (before after : Facts) : Type 0 where

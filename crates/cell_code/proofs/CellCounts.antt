@@ -4,8 +4,8 @@ use Rattle.std.proofs.Math.Seq.{take-length}
 use Rattle.scev_tree.specs.declared.tree.Tree.{Tree, Num}
 use Rattle.scev_tree.specs.Polynomial.{Polynomial, Polynomials, ext, none, more}
 use Rattle.scev_tree.specs.Tree.{polynomial_of, polynomials}
-use Rattle.scev_tree.proofs.Ends.{take_snoc}
-use Rattle.scev_tree.proofs.Rows.{polynomial_of_num}
+use Rattle.scev_tree.proofs.GrowingLists.{take_snoc}
+use Rattle.scev_tree.proofs.ListedTrees.{polynomial_of_num}
 use Rattle.step_core.specs.Parts.{tree_part, places_part}
 use Rattle.step_core.proofs.Injective.{small_number, large_number}
 use Rattle.cell_code.specs.Count.{cells_in, cells_in_places}

@@ -10,10 +10,10 @@ use Rattle.phi_solve.specs.Step.{IsStep, IsChain}
 use Rattle.scev_tree.specs.Side.{IsSide}
 pub use Rattle.scev_tree.proofs.Sides.{side_one, side_ext, side_list, side_places}
 use Rattle.scev_tree.proofs.Unique.{unique, above, raised}
-use Rattle.scev_tree.proofs.Places.{fits}
-use Rattle.scev_tree.proofs.Places.{high_place}
-pub use Rattle.scev_tree.proofs.Rows.{polynomial_of_num, polynomial_of_ext}
-use Rattle.scev_tree.proofs.Rows.{len_is}
+use Rattle.scev_tree.proofs.TreePlaces.{fits}
+use Rattle.scev_tree.proofs.TreePlaces.{high_place}
+pub use Rattle.scev_tree.proofs.ListedTrees.{polynomial_of_num, polynomial_of_ext}
+use Rattle.scev_tree.proofs.ListedTrees.{len_is}
 
 -- ---- the places of a polynomial
 

@@ -6,7 +6,7 @@ use Rattle.arith_word.specs.declared.label.Label.{Label}
 use Rattle.scev_tree.specs.Polynomial.{Polynomial, Polynomials, num, ext, none, more, Power, coefficient, place, IsMonomial, Under, IsNonzero, IsCanonical, AreCanonical, IsBuilt, variable_of}
 use Rattle.scev_tree.specs.Tree.{EndsZero, IsTrimmed, Tidy, polynomials, polynomial_of}
 use Rattle.scev_tree.proofs.Unique.{above}
-use Rattle.scev_tree.proofs.Rows.{polynomial_of_ext, polynomial_of_num}
+use Rattle.scev_tree.proofs.ListedTrees.{polynomial_of_ext, polynomial_of_num}
 
 pub snoc_below : (ts : List Tree) (t : Tree) (j : ℕ) (m : List Power) → j < length ts → place (polynomials (ts ++ t ∷ [])) j m ≡ place (polynomials ts) j m
 snoc_below [] t j m h = absurd (omega arith)

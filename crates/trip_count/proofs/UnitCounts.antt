@@ -11,9 +11,9 @@ use Rattle.exit_solver.proofs.Distances.{wrapped}
 use Rattle.exit_solver.proofs.Readings.{signed_lt, unsigned_lt}
 use Rattle.trip_count.specs.Failing.{IsLeastNumber}
 use Rattle.trip_count.specs.Predicate.{swapped, is_less}
-use Rattle.trip_count.proofs.Roots.{right_inside}
+use Rattle.trip_count.proofs.LinearRoots.{right_inside}
 use Rattle.exit_solver.proofs.Exits.{left_inside}
-use Rattle.trip_count.proofs.Steps.{up_least, down_least}
+use Rattle.trip_count.proofs.UnitSteps.{up_least, down_least}
 
 -- the distance grows as the number does
 shift_step : (M q A z : ℕ) → ((A + z) % M + q) % M ≡ ((A % M + q) % M + z) % M

@@ -22,7 +22,7 @@ use Rattle.mlir_ir.specs.Words.{bits_of, type_text, bin_text}
 use Rattle.scev_server.specs.Guess.{word, words_of, is_full, begins, shape_of, result_of, kind_of, item_size, item_of, use_of, number_of, op_of}
 use Rattle.scev_server.specs.Reading.{IsType}
 use Rattle.scev_server.proofs.Spaced.{IsWord, Reads, reads_spaced}
-use Rattle.scev_server.proofs.Numbers.{IsNumber, number_again}
+use Rattle.scev_server.proofs.NumberTexts.{IsNumber, number_again}
 use Rattle.scev_server.proofs.Texts.{value_word, IsTypeWord, type_again, IsSmallOp, IsOpWord, op_again}
 use Rattle.scev_server.proofs.Named.{Agrees, IsIn, IsUseWord, use_word}
 
