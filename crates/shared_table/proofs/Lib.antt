@@ -9,3 +9,4 @@ pub mod Inside
 pub mod PutSteps
 pub mod Tries
 pub mod Unions
+pub mod Probing

@@ -72,6 +72,7 @@ module _ (m : Meaning) (laws : Laws m) (about : About) (slots id : ℕ) (me : Me
           event = refl;
           cells = (full_places words.cells, full_map words.cells, now.1);
           stands = λ full key has version. found_stands m laws about.base.items about.authors words views id me.0.view k key now.0 g at live has version full (now.1.1 full);
+          is_id = λ full. (g.memos.ids k full).is_id;
         }),
       )))
 

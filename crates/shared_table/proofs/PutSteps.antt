@@ -1,5 +1,5 @@
 -- The steps that put a word, or clear an id, keep the rule.
-use Rattle.std.proofs.Common.{◌≡◌, ℕ, ◌+◌, ◌-◌, ◌<◌, ◌≤◌, eqb, cond, false, List, length, get_or, set, sym, refl, ◌∙◌, subst, ⊎_elim, arith}
+use Rattle.std.proofs.Common.{◌≡◌, ℕ, ◌+◌, ◌-◌, ◌<◌, ◌≤◌, eqb, cond, false, List, ◌∷◌, length, get_or, set, sym, refl, ◌∙◌, subst, ⊎_elim, inl, arith}
 use Rattle.std.proofs.lemmas.Bool.{cases_eq}
 use mathlib.Core.Option.{some}
 use lib.ListN.{get_elem?}
@@ -8,23 +8,25 @@ use Rattle.atomic_table.specs.Table.{Me, Allows}
 use Rattle.step_core.specs.declared.view.View.{View}
 use Rattle.step_core.specs.declared.words.Words.{Words}
 use Rattle.step_core.specs.declared.words.Place.{Place}
-use Rattle.step_core.specs.declared.words.Place.TheVariants.{Log, Key, Id}
+use Rattle.step_core.specs.declared.words.Place.TheVariants.{Log, Key, Id, Cell}
 use Rattle.step_core.specs.Words.{author_of, IsRecordAt}
-use Rattle.step_core.specs.Maps.{Map, times, full_places}
+use Rattle.step_core.specs.Maps.{Map, Has, times, full_places}
+use Rattle.step_core.specs.Cells.{Learns}
 use Rattle.step_core.specs.Meaning.{Meaning, Laws}
-use Rattle.step_core.specs.Answers.{word_at}
+use Rattle.step_core.specs.Answers.{word_at, put_found}
 use Rattle.step_core.specs.Good.{Good, IsKeyAt}
-use Rattle.step_core.specs.Events.{MayPutLog, MayPutId, FindsId}
-use Rattle.step_core.proofs.Keeping.{put_at_keeps, put_key_keeps, put_id_keeps, clear_id_keeps, found_stands}
-use Rattle.step_core.proofs.Fullness.{full_map}
+use Rattle.step_core.specs.Events.{MayPutLog, MayPutCell, MayPutId, FindsId}
+use Rattle.step_core.proofs.Keeping.{put_at_keeps, put_cell_keeps, put_key_keeps, put_id_keeps, clear_id_keeps, found_stands}
+use Rattle.step_core.proofs.Fullness.{full_map, full_entry, has_full}
+use Rattle.step_core.proofs.Slots.{put_won, put_lost}
 use Rattle.shared_table.specs.declared.rule.About.{About}
 use Rattle.shared_table.specs.declared.sizes.SizedView.{SizedView}
 use Rattle.shared_table.specs.Rule.{index, Held}
-use Rattle.shared_table.specs.Steps.{PutsLog, PutsKey, PutsId, ClearsId, tried_log, tried_key, tried_id, tried_clear}
+use Rattle.shared_table.specs.Steps.{PutsLog, PutsCell, PutsKey, PutsId, ClearsId, tried_log, tried_cell, tried_key, tried_id, tried_clear}
 use Rattle.shared_table.specs.Plays.{Moved}
-use Rattle.shared_table.proofs.Blocks.{write, same_key, same_id}
+use Rattle.shared_table.proofs.Blocks.{write, same_key, same_id, same_cell}
 use Rattle.shared_table.proofs.Held.{either_is, Event, allows}
-use Rattle.shared_table.proofs.Learning.{finds_id}
+use Rattle.shared_table.proofs.Learning.{finds_id, finds_cell}
 use Rattle.shared_table.proofs.LoadSteps.{told, as_seen}
 
 module _ (m : Meaning) where
@@ -61,6 +63,40 @@ module _ (m : Meaning) (laws : Laws m) (about : About) (slots id : ℕ) (me : Me
         live,
         put_key_keeps m laws about.base.items about.authors words views id me.0.view k word g at live inside key,
         told m laws about slots id me same live Key k i here (λ a. same_key about.sizes a k) (λ a. PutsKey word me.0.view a n (tried_key me.0.view k word n)) (record { event = refl; seen = λ x has. ((g.fits id me.0.view at live).keys k x has).0 }),
+      )))
+
+  -- what a view knows of cells after a put at k
+  put_cell_tells : (words : Words) (views : List View) (g : Good m about.base.items about.authors words views) → get_elem? views id ≡ some me.0.view → (k word : ℕ) (now : Map)
+      → (get_or words.cells k 0 ≡ 0 → now ≡ (k, word) ∷ me.0.view.cells) → ((get_or words.cells k 0 ≡ 0 → ⊥) → Learns (full_places words.cells) me.0.view.cells k now)
+      → PutsCell word me.0.view k (get_or words.cells k 0) (tried_cell me.0.view k word (get_or words.cells k 0) now)
+  put_cell_tells words views g at k word now won lost =
+      let n : ℕ = get_or words.cells k 0 in
+      let f = g.fits id me.0.view at live in record {
+        event = refl;
+        cells = (won, λ ne. (full_places words.cells, full_map words.cells, (λ z. absurd (ne z), λ _. lost ne)));
+        seen = λ x has. (has_full words.cells k x (f.cells k x has)).0;
+        has = ⊎_elim
+            (λ (z : n ≡ 0). subst (λ (e : Map × ℕ). Has e.0 k e.1) (λ i. (sym (won z) i, sym (put_won n word z) i)) (inl (refl, refl)))
+            (λ (ne : n ≡ 0 → ⊥).
+            let l = lost ne in
+            let h = l.has in
+            let is : h.0 ≡ put_found n word = full_map words.cells k h.0 n (l.known k h.0 h.1) (full_entry words.cells k n refl ne) ∙ sym (put_lost n word ne) in
+            subst (Has now k) is h.1)
+            (cases_eq n 0);
+      }
+
+  pub puts_cell : (k i word : ℕ) → i ≡ index about.sizes (Cell k) → k < about.sizes.cells → MayPutCell about.sizes.cells me.0.view k word
+      → Allows (Held m about) slots id me i (λ n. either (eqb n 0) word n) (λ n me'. Moved me me' × ((a : ℕ) → index me.0.sizes (Cell a) ≡ i → PutsCell word me.0.view a n me'.0.view))
+  puts_cell k i word here range may = allows m about slots id me i (Cell k) (λ n. either (eqb n 0) word n) (λ n w. (a : ℕ) → index me.0.sizes (Cell a) ≡ i → PutsCell word me.0.view a n w) here range same
+      (exchanges m about id me.0.view (Cell k) 0 word (λ n w. (a : ℕ) → index me.0.sizes (Cell a) ≡ i → PutsCell word me.0.view a n w) (λ words views g at long.
+      let n : ℕ = get_or words.cells k 0 in
+      let inside : k < length words.cells = subst (λ (z : ℕ). k < z) (sym long.1) range in
+      let may' : MayPutCell (length words.cells) me.0.view k word = subst (λ (z : ℕ). MayPutCell z me.0.view k word) (sym long.1) may in
+      let now = finds_cell m laws about.base.items about.authors words views g me.0.view (g.fits id me.0.view at live) k ((k, word) ∷ me.0.view.cells) in (
+        tried_cell me.0.view k word n now.0,
+        live,
+        put_cell_keeps m laws about.base.items about.authors words views id me.0.view k word now.0 g at live inside may' now.1 now.2,
+        told m laws about slots id me same live Cell k i here (λ a. same_cell about.sizes a k) (λ a. PutsCell word me.0.view a n (tried_cell me.0.view k word n now.0)) (put_cell_tells words views g at k word now.0 now.1 now.2),
       )))
 
   pub puts_id : (k i word : ℕ) → i ≡ index about.sizes (Id k) → k < about.sizes.memo → MayPutId m me.0.view k word

@@ -20,6 +20,9 @@ pub record Known : Type 0 where
   pub view : View
   pub author : Option ℕ
 
+abbrev pub known_of : TableId → ℕ → SizedView → Option ℕ → Known
+known_of table seat z author = record { table = table; seat = seat; sizes = z.sizes; view = z.view; author = author }
+
 -- the pass is of the table
 abbrev pub IsPassOf : TableId → Sizes → Known → Type 0
 IsPassOf table sizes p = (p.table ≡ table) × (p.sizes ≡ sizes)

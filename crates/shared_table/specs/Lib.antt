@@ -6,3 +6,5 @@ pub mod Opening
 pub mod Closing
 pub mod Puts
 pub mod Found
+pub mod Made
+pub mod CellPuts

@@ -8,7 +8,7 @@ use Rattle.step_core.specs.Meaning.{Meaning}
 use Rattle.shared_table.specs.declared.sizes.SizedView.{SizedView}
 use Rattle.shared_table.specs.Known.{IsSeen}
 use Rattle.shared_table.specs.Rule.{index}
-use Rattle.shared_table.specs.Steps.{LoadsLog, LoadsKey, LoadsId, LoadsCell, PutsLog, PutsKey, PutsId, ClearsId}
+use Rattle.shared_table.specs.Steps.{LoadsLog, LoadsKey, LoadsId, LoadsCell, PutsLog, PutsCell, PutsKey, PutsId, ClearsId}
 
 -- the seat before and after a step, whose new view is one of a good state
 abbrev pub Moved : Me ℕ SizedView → Me ℕ SizedView → Type 0
@@ -33,6 +33,9 @@ loaded_cell = Tells Cell LoadsCell
 -- what an exchange tells, by its operands
 abbrev pub tried_log_place : Step ℕ → Me ℕ SizedView → ℕ → Me ℕ SizedView → Type 0
 tried_log_place st = Tells Log (PutsLog st.second) st
+
+abbrev pub tried_cell_place : Step ℕ → Me ℕ SizedView → ℕ → Me ℕ SizedView → Type 0
+tried_cell_place st = Tells Cell (PutsCell st.second) st
 
 abbrev pub tried_key_place : Step ℕ → Me ℕ SizedView → ℕ → Me ℕ SizedView → Type 0
 tried_key_place st = Tells Key (PutsKey st.second) st

@@ -12,6 +12,18 @@ abbrev pub tries_log : View → ℕ → ℕ → List ℕ → View
 tries_log v k word [] = v
 tries_log v k word (n ∷ ns) = tries_log (tried_log v k word n) (suc k) word ns
 
+-- the place is one of the log, and all places before it are seen
+abbrev pub IsNextPlace : ℕ → View → Type 0
+IsNextPlace k v = (1 ≤ k) × (k ≤ MOST_PUBLICATIONS) × (k ≤ length v.log + 1)
+
+-- the same, or the place behind the last
+abbrev pub IsNextOrEnd : ℕ → View → Type 0
+IsNextOrEnd k v = (1 ≤ k) × (k ≤ MOST_PUBLICATIONS + 1) × (k ≤ length v.log + 1)
+
+-- the place is seen, and no place behind the last
+abbrev pub IsSeenUpTo : ℕ → View → Type 0
+IsSeenUpTo k v = (k ≤ length v.log) × (length v.log ≤ MOST_PUBLICATIONS)
+
 -- tries at one place after another, each lost
 pub record IsLost (from k : ℕ) (lost : List ℕ) : Type 0 where
   pub full : AllOf (λ n. n ≢ 0) lost

@@ -17,3 +17,16 @@ pub enum Kept {
     /// The place held this other word, and was left as it is.
     Lost(u64),
 }
+
+/// What a put of a cell gives.
+#[derive(Clone, Copy, Debug, PartialEq, Eq)]
+pub enum CellPut {
+    /// The cell with this number holds the word.
+    Home(u32),
+    /// Every cell is full, and none holds the word.
+    Full,
+}
+
+/// An interned expression: the number of the cell at its root.
+#[derive(Clone, Copy, Debug, PartialEq, Eq)]
+pub struct Node(pub u32);

@@ -1,10 +1,9 @@
-ghost use Rattle.std.specs.Prelude.{◌≡◌, ℕ, ◌+◌, ◌^◌, ◌<◌, ◌≤◌, [], ◌∷◌, IfErr, IfOk, vec_capacity};
+ghost use Rattle.std.specs.Prelude.{◌≡◌, ℕ, ◌+◌, ◌^◌, ◌<◌, ◌≤◌, [], IfErr, IfOk, vec_capacity};
 ghost use Rattle.std.specs.Mem.Slots.{IsFull, slots_items, slots_len};
-ghost use Rattle.step_core.specs.Good.{Good};
 ghost use Rattle.step_core.specs.Maps.{times};
 ghost use Rattle.shared_table.specs.Known.{AreSizedBy, IsPassOf};
 ghost use Rattle.shared_table.specs.Rule.{block, word_count, words_of};
-ghost use Rattle.shared_table.specs.Closing.{HasRoom};
+ghost use Rattle.shared_table.specs.Closing.{HasRoom, IsGoodAlone};
 ghost use Rattle.step_core.specs.declared.limits.TheConstants.{MOST_PLACES};
 
 use crate::pass::Pass;
@@ -71,12 +70,12 @@ fn all_words(closed: &Closed<u8, Global>, sizes: Sizes, room: Room) -> Words
 }
 
 impl<M: MemoMeaning> Shared<M> {
-    /// Closes the table by a pass that has all authors. Where there is no memory for the words, both
-    /// come back untouched.
+    /// Closes the table by a pass that has all authors. Where there is no memory for the words,
+    /// both come back untouched.
     pub fn close(self, alloc: Global, p: Pass) -> Result<Words, (Shared<M>, Pass)>
         requires table { IsPassOf self.table.shared.table_id self.sizes p }
         requires all { (a : ℕ) → a < p.view.count → 0 < times a p.view.authors }
-        ensures good { IfOk result (λ w. Good M.meaning p.view.base p.view.count w (p.view ∷ [])) }
+        ensures good { IfOk result (λ w. IsGoodAlone M.meaning p.view w) }
         ensures sized { IfOk result (λ w. AreSizedBy p.sizes w) }
         ensures err { IfErr result (λ r. (r.0 ≡ self) × (r.1 ≡ p)) }
     {

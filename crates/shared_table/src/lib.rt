@@ -3,6 +3,7 @@
 #![tactic(auto)]
 
 mod answers;
+mod cells;
 mod closing;
 mod loads;
 mod opening;
@@ -14,10 +15,10 @@ mod shared;
 mod sizes;
 mod splits;
 
-pub use answers::{Kept, Put};
+pub use answers::{CellPut, Kept, Node, Put};
 pub use opening::open;
 pub use pass::Pass;
-pub use play::{ClearId, LoadCell, LoadId, LoadKey, LoadLog, PutId, PutKey, PutLog};
+pub use play::{ClearId, LoadCell, LoadId, LoadKey, LoadLog, PutCell, PutId, PutKey, PutLog};
 pub use rule::{About, TableOf};
 pub use shared::Shared;
 pub use sizes::{SizedView, Sizes};

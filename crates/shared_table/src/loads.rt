@@ -1,10 +1,11 @@
-ghost use Rattle.std.specs.Prelude.{◌≡◌, ◌≢◌, ℕ, ◌-◌, ◌<◌, ◌≤◌, [], length, slice_index};
+ghost use Rattle.std.specs.Prelude.{◌≡◌, ◌≢◌, ℕ, ◌<◌, ◌≤◌, []};
 ghost use Rattle.step_core.specs.declared.limits.TheConstants.{MOST_PUBLICATIONS};
 ghost use Rattle.step_core.specs.declared.words.Place.{Place};
 ghost use Rattle.step_core.specs.Events.{view_after_load};
 ghost use Rattle.step_core.specs.Maps.{Has};
+ghost use Rattle.step_core.specs.Words.{IsIdWord};
 ghost use Rattle.shared_table.specs.Known.{IsPassOf, IsSamePass};
-ghost use Rattle.shared_table.specs.Steps.{AsSeen, LearnsCell, LearnsId, StandsHere};
+ghost use Rattle.shared_table.specs.Steps.{AsSeen, IsCellLoaded, IsIdLoaded, LearnsCell, LearnsId, StandsHere};
 
 use crate::pass::{Pass, seen_after};
 use crate::play::{LoadCell, LoadId, LoadKey, LoadLog};
@@ -51,9 +52,10 @@ impl<M: MemoMeaning> Shared<M> {
         requires table { IsPassOf self.now.table.shared.table_id self.now.sizes p.old }
         requires place { at < self.now.sizes.memo }
         ensures same { IsSamePass p.old p.new }
-        ensures event { p.new.view ≡ view_after_load p.old.view (Place.Id at) result p.new.view.cells }
+        ensures event { IsIdLoaded p.old.view at result p.new.view }
         ensures cells { LearnsId p.old.view result p.new.view }
         ensures stands { StandsHere M.meaning p.old.view at result p.new.view }
+        ensures word { result ≢ 0 → IsIdWord result }
     {
         let word = FIRST_KEY + self.sizes.memo as usize + at as usize;
         self.table.shared.load::<LoadId<M>>(&mut p.seat, word)
@@ -64,7 +66,7 @@ impl<M: MemoMeaning> Shared<M> {
         requires table { IsPassOf self.now.table.shared.table_id self.now.sizes p.old }
         requires place { id < self.now.sizes.cells }
         ensures same { IsSamePass p.old p.new }
-        ensures event { p.new.view ≡ view_after_load p.old.view (Place.Cell id) result p.new.view.cells }
+        ensures event { IsCellLoaded p.old.view id result p.new.view }
         ensures cells { LearnsCell p.old.view id result p.new.view }
         ensures seen { (word : ℕ) → Has p.old.view.cells id word → result ≡ word }
         ensures has { result ≢ 0 → Has p.new.view.cells id result }

@@ -1,9 +1,9 @@
-ghost use Rattle.std.specs.Prelude.{◌≡◌, ℕ, ◌<◌, ◌≤◌, [], ◌∷◌, None, IfOk, vec_capacity, vec_len};
+ghost use Rattle.std.specs.Prelude.{◌≡◌, ◌<◌, ◌≤◌, [], ◌∷◌, None, IfOk, vec_capacity, vec_len};
 ghost use Rattle.step_core.specs.declared.limits.TheConstants.{MOST_AUTHORS};
 ghost use Rattle.step_core.specs.Views.{dealer, dealt};
 ghost use Rattle.step_core.specs.Words.{IsSize};
 ghost use Rattle.shared_table.specs.Known.{IsOpened, IsPassOf, opened};
-ghost use Rattle.shared_table.specs.Opening.{AreOpened, IsDealer};
+ghost use Rattle.shared_table.specs.Opening.{AreDealt, IsDealtOf, IsFirst};
 
 use crate::pass::Pass;
 use crate::play::Deal;
@@ -19,9 +19,11 @@ fn deal<M: MemoMeaning>(shared: &Shared<M>, p: &mut Pass, author: u8) -> Pass
     requires table { IsPassOf shared.now.table.shared.table_id shared.now.sizes p.old }
     requires fresh { (p.old.view.events ≡ []) × (p.old.author ≡ None) }
     requires first { dealt p.old.view ≡ opened p.old.view.base p.old.view.count (author ∷ []) }
-    ensures rest { IsPassOf shared.now.table.shared.table_id shared.now.sizes p.new × (p.new.author ≡ None) }
+    ensures rest { IsPassOf shared.now.table.shared.table_id shared.now.sizes p.new }
+    ensures nobody { p.new.author ≡ None }
     ensures dealer { p.new.view ≡ dealer p.old.view }
-    ensures dealt { IsOpened p.old.view.base p.old.view.count shared.now.table.shared.table_id shared.now.sizes author result }
+    ensures dealt { IsDealtOf p.old.view shared.now.table.shared.table_id shared.now.sizes author
+        result }
 {
     let seat = shared.table.shared.split_seat::<Deal>(&mut p.seat);
     Pass {
@@ -46,10 +48,13 @@ fn own(p: Pass, author: u8) -> Pass
 
 /// Gives each author to a pass of its own.
 fn deal_all<M: MemoMeaning>(shared: &Shared<M>, all: Pass, passes: &mut Vec<Pass>, authors: u8)
-    requires dealer { IsDealer all.view.base authors shared.now.table.shared.table_id shared.now.sizes 0 all }
-    requires room { (0 < authors) × (passes.old.items ≡ []) × (authors ≤ vec_capacity passes.old) }
+    requires dealer { IsFirst all.view.base authors shared.now.table.shared.table_id
+        shared.now.sizes all }
+    requires authors { 0 < authors }
+    requires room { (passes.old.items ≡ []) × (authors ≤ vec_capacity passes.old) }
     ensures count { vec_len passes.new ≡ authors }
-    ensures passes { AreOpened all.view.base authors shared.now.table.shared.table_id shared.now.sizes authors passes.new.items }
+    ensures passes { AreDealt all.view.base authors shared.now.table.shared.table_id
+        shared.now.sizes passes.new.items }
 {
     let mut rest = all;
     let last = authors - 1;
@@ -69,7 +74,9 @@ fn make<M: MemoMeaning>(
 ) -> Result<(Shared<M>, Pass), AllocError>
     requires authors { authors ≤ MOST_AUTHORS }
     requires sizes { IsSize sizes.cells × IsSize sizes.memo }
-    ensures { IfOk result (λ r. IsDealer base.now authors r.0.table.shared.table_id sizes 0 r.1 × (r.0.sizes ≡ sizes)) }
+    ensures pass { IfOk result
+        (λ r. IsFirst base.now authors r.0.table.shared.table_id sizes r.1) }
+    ensures sizes { IfOk result (λ r. r.0.sizes ≡ sizes) }
 {
     let memo = sizes.memo as usize;
     let count = FIRST_KEY + (memo + memo) + sizes.cells as usize;
@@ -101,7 +108,8 @@ pub fn open<M: MemoMeaning>(
     requires sizes { IsSize sizes.cells × IsSize sizes.memo }
     ensures sizes { IfOk result (λ r. r.0.sizes ≡ sizes) }
     ensures count { IfOk result (λ r. vec_len r.1 ≡ authors) }
-    ensures passes { IfOk result (λ r. AreOpened base.now authors r.0.table.shared.table_id sizes authors r.1.items) }
+    ensures passes { IfOk result
+        (λ r. AreDealt base.now authors r.0.table.shared.table_id sizes r.1.items) }
 {
     let mut passes = Vec::with_capacity(alloc, authors as usize)?;
     let (shared, all) = make(alloc, base, authors, sizes)?;

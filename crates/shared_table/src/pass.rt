@@ -16,11 +16,11 @@ pub struct Pass {
 }
 
 impl Model for Pass {
-    ghost use Rattle.shared_table.specs.Known.{Known, IsInside};
+    ghost use Rattle.shared_table.specs.Known.{Known, IsInside, known_of};
 
     ghost Value = { Known };
 
-    ghost view = { λ p. record { table = p.seat.table_id; seat = p.seat.id; sizes = p.seat.me.0.sizes; view = p.seat.me.0.view; author = p.author } };
+    ghost view = { λ p. known_of p.seat.table_id p.seat.id p.seat.me.0 p.author };
 
     ghost invariant = { λ p. IsInside p.seat.me p.seen p.author };
 }
@@ -36,7 +36,8 @@ impl Pass {
 
     /// How many records of the log the pass has seen.
     pub fn seen(&self) -> u16
-        ensures { result ≡ length self.now.view.log }
+        ensures seen { result ≡ length self.now.view.log }
+        ensures most { result ≤ MOST_PUBLICATIONS }
     {
         self.seen
     }

@@ -62,6 +62,15 @@ impl Play<u8, SizedView> for PutLog {
     ghost then = { tried_log_place };
 }
 
+/// A put of a cell.
+pub struct PutCell;
+
+impl Play<u8, SizedView> for PutCell {
+    ghost use Rattle.shared_table.specs.Plays.{tried_cell_place};
+
+    ghost then = { tried_cell_place };
+}
+
 /// A put of a memo's key.
 pub struct PutKey;
 

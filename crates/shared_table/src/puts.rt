@@ -1,5 +1,4 @@
-ghost use Rattle.std.specs.Prelude.{◌≡◌, ℕ, ◌+◌, ◌<◌, ◌≤◌, length};
-ghost use Rattle.step_core.specs.declared.limits.TheConstants.{MOST_PUBLICATIONS};
+ghost use Rattle.std.specs.Prelude.{◌≡◌, ℕ, ◌<◌};
 ghost use Rattle.step_core.specs.Answers.{put_found};
 ghost use Rattle.step_core.specs.Events.{MayPutId};
 ghost use Rattle.step_core.specs.Good.{IsKeyAt};
@@ -7,8 +6,8 @@ ghost use Rattle.step_core.specs.Maps.{Has, times};
 ghost use Rattle.step_core.specs.Words.{IsIdWord, IsRecordAt, author_of};
 ghost use Rattle.shared_table.specs.Known.{IsPassOf, IsSamePass};
 ghost use Rattle.shared_table.specs.Found.{IsKept, found_by};
-ghost use Rattle.shared_table.specs.Puts.{PutsEnd};
-ghost use Rattle.shared_table.specs.Steps.{LearnsId, LearnsUncleared, StandsHere, tried_clear, tried_id, tried_key, tried_log};
+ghost use Rattle.shared_table.specs.Puts.{IsNextOrEnd, IsNextPlace, IsSeenUpTo, PutsEnd};
+ghost use Rattle.shared_table.specs.Steps.{IsClearTried, IsIdTried, LearnsId, LearnsUncleared, StandsHere, tried_key, tried_log};
 
 use crate::answers::{Kept, Put};
 use crate::pass::{Pass, seen_after};
@@ -21,11 +20,11 @@ impl<M: MemoMeaning> Shared<M> {
     /// Tries to put a record at a log place. Answers the word found.
     fn try_log(&self, p: &mut Pass, k: u16, rec: u64) -> u64
         requires table { IsPassOf self.now.table.shared.table_id self.now.sizes p.old }
-        requires place { (1 ≤ k) × (k ≤ MOST_PUBLICATIONS) × (k ≤ length p.old.view.log + 1) }
+        requires place { IsNextPlace k p.old.view }
         requires word { IsRecordAt k rec × (0 < times (author_of rec) p.old.view.authors) }
         ensures same { IsSamePass p.old p.new }
         ensures event { p.new.view ≡ tried_log p.old.view k rec result }
-        ensures seen { (k ≤ length p.new.view.log) × (length p.new.view.log ≤ MOST_PUBLICATIONS) }
+        ensures seen { IsSeenUpTo k p.new.view }
     {
         let found = self
             .table
@@ -36,11 +35,11 @@ impl<M: MemoMeaning> Shared<M> {
         found
     }
 
-    /// Puts a record at the first log place that is empty, from a place on. It tries one place after
-    /// another.
+    /// Puts a record at the first log place that is empty, from a place on. It tries one place
+    /// after another.
     pub fn put_log(&self, p: &mut Pass, from: u16, rec: u64) -> Put
         requires table { IsPassOf self.now.table.shared.table_id self.now.sizes p.old }
-        requires place { (1 ≤ from) × (from ≤ MOST_PUBLICATIONS + 1) × (from ≤ length p.old.view.log + 1) }
+        requires place { IsNextOrEnd from p.old.view }
         requires word { IsRecordAt from rec × (0 < times (author_of rec) p.old.view.authors) }
         ensures same { IsSamePass p.old p.new }
         ensures events { PutsEnd p.old.view p.new.view from rec result }
@@ -80,7 +79,7 @@ impl<M: MemoMeaning> Shared<M> {
         requires place { at < self.now.sizes.memo }
         requires word { MayPutId M.meaning p.old.view at word }
         ensures same { IsSamePass p.old p.new }
-        ensures event { p.new.view ≡ tried_id p.old.view at word (found_by 0 result) p.new.view.cells }
+        ensures event { IsIdTried p.old.view at word (found_by 0 result) p.new.view }
         ensures answer { IsKept 0 at result }
         ensures cells { LearnsId p.old.view (found_by 0 result) p.new.view }
         ensures stands { StandsHere M.meaning p.old.view at (found_by 0 result) p.new.view }
@@ -99,7 +98,7 @@ impl<M: MemoMeaning> Shared<M> {
         requires place { at < self.now.sizes.memo }
         requires word { IsIdWord old }
         ensures same { IsSamePass p.old p.new }
-        ensures event { p.new.view ≡ tried_clear p.old.view at old (found_by old result) p.new.view.cells }
+        ensures event { IsClearTried p.old.view at old (found_by old result) p.new.view }
         ensures answer { IsKept old at result }
         ensures cells { LearnsUncleared p.old.view old (found_by old result) p.new.view }
     {

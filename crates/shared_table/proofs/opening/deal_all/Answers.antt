@@ -29,7 +29,7 @@ loop-i-preserved g c =
       count = search rules;
       long = ap length items ∙ (length_push c.loop-i.passes.items c.deal-one.result ∙ ap (λ (z : ℕ). z + 1) v.long);
       room = search rules;
-      rest = record { of = d.rest.0; view = d.dealer ∙ others base count c.loop-i.rest.view i v.rest.view (omega arith); author = d.rest.1 };
+      rest = record { of = d.rest; view = d.dealer ∙ others base count c.loop-i.rest.view i v.rest.view (omega arith); author = d.nobody };
       each = subst (λ (ps : List Known). AreOpened base count table sizes (i + 1) ps) (sym items) (one_more base count table sizes c.loop-i.passes.items c.deal-one.result i v.long v.each one);
     }
 

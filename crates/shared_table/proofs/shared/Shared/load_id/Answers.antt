@@ -30,3 +30,9 @@ returns-clause-stands g c =
     let sizes = ap (λ (z : Known). z.sizes) c.p.view_is ∙ c.requires.table.1 in
     let told = c.load.ensures.2.1 c.args.at (ap (λ (z : Sizes). (4096 + z.memo) + c.args.at) sizes) in
     stands_of g.M.MemoMeaning.meaning c.p.inside.seat.me.0.view _ c.load.new.seat.me.0.view c.args.at _ (ap (λ (z : Known). z.view) c.p.view_is) told.stands
+
+pub returns-clause-word : goal.returns-clause-word
+returns-clause-word g c =
+    let sizes = ap (λ (z : Known). z.sizes) c.p.view_is ∙ c.requires.table.1 in
+    let told = c.load.ensures.2.1 c.args.at (ap (λ (z : Sizes). (4096 + z.memo) + c.args.at) sizes) in
+    told.is_id
