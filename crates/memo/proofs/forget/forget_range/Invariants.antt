@@ -1,0 +1,11 @@
+use Rattle.shared_table.specs.Known.{IsSamePass}
+use Rattle.memo.specs.Keys.{GainsMemos}
+use Rattle.memo.proofs.Placing.{Cleared}
+use Rattle.memo.proofs.forget.forget_range.Given as goal
+
+abbrev pub invariant-loop-k : goal.invariant-loop-k
+invariant-loop-k g l = record {
+  same : IsSamePass l.initial.p l.p;
+  grows : GainsMemos l.initial.p.view l.p.view;
+  events : Cleared g.M.MemoMeaning.meaning l.s.sizes l.initial.p.view l.version l.fn.from.0 l.k l.p.view;
+}

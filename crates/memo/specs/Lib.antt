@@ -1,0 +1,4 @@
+pub mod Keys
+pub mod Seeking
+pub mod Keeping
+pub mod Forgetting
