@@ -1,0 +1,12 @@
+pub mod Ends
+pub mod Items
+pub mod Iterations
+pub mod Lists
+pub mod Loops
+pub mod Rounds
+pub mod Scopes
+pub mod Simples
+pub mod Simulation
+pub mod Views
+pub mod WhileRounds
+pub mod Written

@@ -1,0 +1,18 @@
+//! Runs of functions: the numbers that a function returns and the calls that it makes, on arguments,
+//! on the replies of its calls and on a budget.
+#![tactic(auto)]
+
+mod function;
+mod input;
+mod labels;
+mod machine;
+mod memory;
+mod outcome;
+mod parts;
+mod simple;
+#[cfg(test)]
+mod tests;
+mod walk;
+
+pub use function::run;
+pub use outcome::{Event, Outcome, Run};
