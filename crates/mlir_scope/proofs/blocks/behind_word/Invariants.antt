@@ -1,0 +1,10 @@
+use Rattle.std.proofs.Common.{◌≡◌, length}
+use Rattle.mlir_ir.specs.Source as source
+use Rattle.mlir_scope.specs.Said.{said}
+use Rattle.mlir_scope.proofs.blocks.behind_word.Given as goal
+
+abbrev pub invariant-seek : goal.invariant-seek
+invariant-seek l = source.region_behind (said l.tokens l.rest) ≡ source.region_behind (said l.tokens l.kind)
+
+abbrev pub decreases-seek : goal.decreases-seek
+decreases-seek l = length l.rest

@@ -1,0 +1,10 @@
+use Rattle.std.proofs.Common.{◌≡◌, length}
+use Rattle.mlir_ir.specs.Source as source
+use Rattle.mlir_scope.specs.Said.{said}
+use Rattle.mlir_scope.proofs.blocks.next_direct.Given as goal
+
+abbrev pub invariant-seek : goal.invariant-seek
+invariant-seek l = source.block (said l.tokens l.rest) ≡ source.block (said l.tokens l.parts)
+
+abbrev pub decreases-seek : goal.decreases-seek
+decreases-seek l = length l.rest

@@ -1,0 +1,11 @@
+pub mod Said
+pub mod Reading
+pub mod Blocks
+pub mod Noted
+pub mod Scopes
+pub mod Endings
+pub mod Arguments
+pub mod Walked
+pub mod StandingFunctions
+pub mod InScope
+pub mod OperationWords
