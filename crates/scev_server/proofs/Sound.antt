@@ -27,8 +27,8 @@ use Rattle.mlir_ir.specs.Rules.{op_rules, arg_rules, packs_hold, is_kind_counted
 use Rattle.mlir_ir.specs.Names.{is_name}
 use Rattle.mlir_ir.specs.Values.{Value, arg_values, items_values, func_values, result_values}
 use Rattle.scev_server.specs.Input.{IsSmall, IsSmallItem, IsSmallKind}
-use Rattle.fresh_scev.specs.Fresh.{items_of as body_items}
-use Rattle.fresh_scev.specs.Straight.{is_straight_line, item_holds_no_region, holds_no_region}
+use Rattle.linear_scev.specs.Fresh.{items_of as body_items}
+use Rattle.linear_scev.specs.Straight.{is_straight_line, item_holds_no_region, holds_no_region}
 use Rattle.scev_server.specs.Plain.{AreApart, IsPlainItem, IsPlainFunc, IsAnalysable, items_of}
 use Rattle.scev_server.proofs.Plain.{plain_value, items_first, kind_has_none, values_first}
 

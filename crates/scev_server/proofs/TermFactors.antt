@@ -1,8 +1,8 @@
 -- The factors of an expression's terms are below 2 ^ w.
 use Rattle.std.proofs.Common.{ℕ, ◌^◌, ◌<◌, List, [], ◌∷◌, All}
 use Rattle.std.proofs.lemmas.List.Elements.{All-nil, All-cons}
-use Rattle.fresh_scev.specs.Linear.{IsCanonical}
-use Rattle.fresh_scev.specs.declared.expr.Term.{Term}
+use Rattle.linear_scev.specs.Linear.{IsCanonical}
+use Rattle.linear_scev.specs.declared.expr.Term.{Term}
 
 pub factors_below : (w : ℕ) (terms : List Term) → IsCanonical w terms → All (λ t. t.factor < 2 ^ w) terms
 factors_below w [] h = All-nil (λ t. t.factor < 2 ^ w)

@@ -5,8 +5,8 @@ use Rattle.std.specs.Fmt.{decimal, signed_decimal}
 use Rattle.std.specs.Str.{bytes_eq}
 use Rattle.arith_word.specs.Word.{signed_reading}
 use Rattle.mlir_ir.specs.Values.{Value, value_at}
-use Rattle.fresh_scev.specs.Linear.{Linear}
-use Rattle.fresh_scev.specs.declared.expr.Term.{Term}
+use Rattle.linear_scev.specs.Linear.{Linear}
+use Rattle.linear_scev.specs.declared.expr.Term.{Term}
 
 -- the signed reading of a number; at one bit 0 or 1
 abbrev pub reading_text : ℕ → ℕ → List ℕ

@@ -2,7 +2,7 @@
 use Rattle.std.specs.Prelude.{◌≡◌, ℕ, ◌+◌, ◌-◌, ◌==◌, ◌&&◌, List, [], ◌∷◌, ◌++◌, codes, filter, Option, None, Some, nat_lt, slice_get, if◌then◌else◌}
 use Rattle.std.specs.Option.{option_and_then, option_map_or}
 use Rattle.std.specs.Str.{bytes_eq}
-use Rattle.fresh_scev.specs.Fresh.{fresh}
+use Rattle.linear_scev.specs.Fresh.{fresh}
 use Rattle.mlir_ir.specs.Values.{Value, func_values}
 use Rattle.mlir_ir.specs.declared.types.Func.{Func}
 use Rattle.scev_server.specs.Expressions.{expr_text}

@@ -7,7 +7,7 @@ use Rattle.mlir_ir.specs.declared.types.IrType.{IrType}
 use Rattle.mlir_ir.specs.declared.types.Item.{Item}
 use Rattle.mlir_ir.specs.declared.types.Op.{Op}
 use Rattle.mlir_ir.specs.declared.types.Pack.{Pack}
-use Rattle.fresh_scev.specs.Straight.{is_straight_line}
+use Rattle.linear_scev.specs.Straight.{is_straight_line}
 use Rattle.mlir_ir.specs.Check.{IsWellFormed}
 use Rattle.mlir_ir.specs.Limits.{item_limit}
 use Rattle.mlir_ir.specs.Values.{Value, func_values}

@@ -6,7 +6,7 @@ ghost use Rattle.scev_server.specs.Plain.{IsPlainFunc};
 use crate::names::value_name;
 use crate::signed::push_signed;
 use arith_word::{Label, Width};
-use fresh_scev::{Expr, Term};
+use linear_scev::{Expr, Term};
 use mlir_ir::Func;
 use std::alloc::AllocError;
 

@@ -1,6 +1,6 @@
 ghost use Rattle.std.specs.Prelude.{◌≡◌, ℕ, ◌≤◌, ◌++◌, List, [], All, OnOk, IfOk, string_bytes, length};
 ghost use Rattle.std.specs.Option.{option_map_or};
-ghost use Rattle.fresh_scev.specs.Fresh.{fresh};
+ghost use Rattle.linear_scev.specs.Fresh.{fresh};
 ghost use Rattle.mlir_ir.specs.Values.{func_values};
 ghost use Rattle.scev_server.specs.Expressions.{expr_text};
 ghost use Rattle.scev_server.specs.Input.{IsCommand, IsScript};
@@ -12,7 +12,7 @@ use crate::gate::Gate;
 use crate::input::{Command, Input, Script};
 use crate::names::value_label;
 use arith_word::Label;
-use fresh_scev::analyse;
+use linear_scev::analyse;
 use mlir_ir::Func;
 use std::alloc::{AllocError, Global};
 
