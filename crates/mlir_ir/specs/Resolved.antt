@@ -59,7 +59,7 @@ magnitude kind =
 abbrev pub literal : ℕ → Phrase → ℕ
 literal w kind =
     if has terminals.Truth kind
-    then (if bytes_eq (word kind).text (codes "true") then 1 else 0)
+    then (if bytes_eq (first_spot (spots terminals.Truth kind)).text (codes "true") then 1 else 0)
     else (if has terminals.Minus kind then (2 ^ w - magnitude kind % 2 ^ w) % 2 ^ w else magnitude kind % 2 ^ w)
 
 -- names in scope

@@ -22,7 +22,8 @@ pub(crate) fn check_args<'x>(
     args: &'x [Arg],
 ) -> Result<Position, Shape>
     requires { at.next + min arg_limit (length args.now) < 2 ^ 32 }
-    ensures found { spec.first (spec.args_breaks declared 0 wanted.now (scope_values scope.now) at args.now) ≡ result_err result }
+    ensures found { spec.first (spec.args_breaks declared 0 wanted.now (scope_values scope.now)
+        at args.now) ≡ result_err result }
     ensures moved { IfOk result (λ behind. behind ≡ spec.past (length args.now) 0 at) }
     ensures few { OnOk result (length args.now ≤ arg_limit) }
 {

@@ -30,7 +30,8 @@ fn are_few(ops: &[Op]) -> bool
 /// whatever its labels begin with.
 fn check_excess(scope: &Scope, nest: Nest, at: Position, ops: &[Op]) -> Result<(), Shape>
     requires { IsFalse nest.item_fits }
-    ensures found { (func k : ℕ) → spec.first (spec.ops_breaks (scope_values scope.now) nest (spec.at_item func k at) ops.now) ≡ result_err result }
+    ensures found { (func k : ℕ) → spec.first (spec.ops_breaks (scope_values scope.now) nest
+        (spec.at_item func k at) ops.now) ≡ result_err result }
     ensures none { OnOk result (ops.now ≡ []) }
 {
     if ops.is_empty() {
@@ -48,9 +49,13 @@ fn check_item(
     at: Position,
     item: &Item,
 ) -> Result<Position, Shape>
-    ensures found { spec.first (spec.ops_breaks (scope_values scope.now) (spec.in_item number item.now) (spec.at_item func number at) item.now.ops) ≡ result_err result }
-    ensures last { IfOk result (λ behind. behind.last ≡ (spec.past_ops item.now.ops (spec.at_item func number at)).last) }
-    ensures ops { IfOk result (λ behind. behind.ops ≡ (spec.past_ops item.now.ops (spec.at_item func number at)).ops) }
+    ensures found { spec.first (spec.ops_breaks (scope_values scope.now)
+        (spec.in_item number item.now) (spec.at_item func number at) item.now.ops)
+        ≡ result_err result }
+    ensures last { IfOk result (λ behind. behind.last
+        ≡ (spec.past_ops item.now.ops (spec.at_item func number at)).last) }
+    ensures ops { IfOk result (λ behind. behind.ops
+        ≡ (spec.past_ops item.now.ops (spec.at_item func number at)).ops) }
     ensures few { OnOk result (KeepsLabels number item.now) }
 {
     let ops = item.ops.as_slice();
@@ -112,7 +117,8 @@ impl Func {
     /// break.
     #[tactic(auto, using(crate::proofs::ListedBreaks::first_append, crate::proofs::ListedBreaks::first_none))]
     pub fn check(&self) -> Result<(), Shape>
-        ensures { MatchResult result (λ _. spec.IsWellFormed self.now) (λ shape. spec.first (spec.breaks self.now) ≡ Some shape) }
+        ensures { MatchResult result (λ _. spec.IsWellFormed self.now)
+            (λ shape. spec.first (spec.breaks self.now) ≡ Some shape) }
     {
         let base = Label::new(self.index, 0, 0).0;
         let begin = Position {

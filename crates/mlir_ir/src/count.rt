@@ -18,7 +18,8 @@ pub(crate) fn skip_list(n: usize, left: u32) -> Option<u32>
 /// What is left of that many labels behind those inside an operation; `None` where there are fewer.
 #[cycle(skip)]
 pub(crate) fn skip_kind(kind: &Kind, left: u32) -> Option<u32>
-    ensures { MatchOption result (left < kind_labels kind.now) (λ rest. rest + kind_labels kind.now ≡ left) }
+    ensures { MatchOption result (left < kind_labels kind.now)
+        (λ rest. rest + kind_labels kind.now ≡ left) }
 {
     match kind {
         Kind::If(_, first, None) => skip_region(first, left),
@@ -31,7 +32,8 @@ pub(crate) fn skip_kind(kind: &Kind, left: u32) -> Option<u32>
 
 #[cycle(skip)]
 fn skip_for(parts: &ForParts, left: u32) -> Option<u32>
-    ensures { MatchOption result (left < kind_labels (Kind.For parts.now)) (λ rest. rest + kind_labels (Kind.For parts.now) ≡ left) }
+    ensures { MatchOption result (left < kind_labels (Kind.For parts.now))
+        (λ rest. rest + kind_labels (Kind.For parts.now) ≡ left) }
 {
     let left = skip_list(parts.args.as_slice().len(), skip_list(2, left)?)?;
     Some(skip_region(&parts.body, left)?)
@@ -39,7 +41,8 @@ fn skip_for(parts: &ForParts, left: u32) -> Option<u32>
 
 #[cycle(skip)]
 fn skip_while(parts: &WhileParts, left: u32) -> Option<u32>
-    ensures { MatchOption result (left < kind_labels (Kind.While parts.now)) (λ rest. rest + kind_labels (Kind.While parts.now) ≡ left) }
+    ensures { MatchOption result (left < kind_labels (Kind.While parts.now))
+        (λ rest. rest + kind_labels (Kind.While parts.now) ≡ left) }
 {
     let left = skip_list(parts.args.as_slice().len(), skip_list(1, left)?)?;
     let left = skip_region(&parts.before, left)?;
@@ -50,7 +53,8 @@ fn skip_while(parts: &WhileParts, left: u32) -> Option<u32>
 #[cycle(skip)]
 #[tactic(auto, using(crate::proofs::RegionItems::region_labels_items))]
 fn skip_region(region: &Region, left: u32) -> Option<u32>
-    ensures { MatchOption result (left < region_labels region.now) (λ rest. rest + region_labels region.now ≡ left) }
+    ensures { MatchOption result (left < region_labels region.now)
+        (λ rest. rest + region_labels region.now ≡ left) }
 {
     skip_ops(region.ops.as_slice(), left)
 }
@@ -58,7 +62,8 @@ fn skip_region(region: &Region, left: u32) -> Option<u32>
 /// What is left of that many labels behind those of operations; `None` where there are fewer.
 #[cycle(skip)]
 fn skip_ops(ops: &[Op], left: u32) -> Option<u32>
-    ensures { MatchOption result (left < ops_labels ops.now) (λ rest. rest + ops_labels ops.now ≡ left) }
+    ensures { MatchOption result (left < ops_labels ops.now)
+        (λ rest. rest + ops_labels ops.now ≡ left) }
 {
     let mut left = left;
     for op in ops {

@@ -30,10 +30,12 @@ fn are_short(packs: &[Pack]) -> bool
 
 /// The rules that an operation keeps, besides those of the places in its regions.
 pub(crate) fn op_rules(scope: &Scope, nest: Nest, at: Position, op: &Op) -> Rules
-    ensures value { result ≡ spec.op_rules (scope_values scope.now) nest at op.now.packs op.now.results op.now.kind }
+    ensures value { result ≡ spec.op_rules (scope_values scope.now) nest at
+        op.now.packs op.now.results op.now.kind }
     ensures few { IsTrue result.sized → at.ops < op_limit }
     ensures fits { IsTrue result.sized → IsTrue nest.item_fits }
-    ensures opens { IsTrue result.sized → IsTrue (spec.is_kind_sized nest.regions nest.loops op.now.kind) }
+    ensures opens { IsTrue result.sized
+        → IsTrue (spec.is_kind_sized nest.regions nest.loops op.now.kind) }
 {
     let packs = op.packs.as_slice();
     let results = op.results.as_slice();
@@ -64,7 +66,8 @@ pub(crate) fn arg_rules(
     scope: &Scope,
     arg: &Arg,
 ) -> Rules
-    ensures value { result ≡ spec.arg_rules declared place (drop place wanted.now) (scope_values scope.now) arg.now }
+    ensures value { result ≡ spec.arg_rules declared place (drop place wanted.now)
+        (scope_values scope.now) arg.now }
     ensures few { IsTrue result.sized → place < arg_limit }
 {
     let name = arg.name.as_bytes();
@@ -104,7 +107,8 @@ pub(crate) fn yield_rules(scope: &Scope, wanted: &[IrType], ends: &[Label]) -> R
 
 /// The rules that the yield behind `do` keeps.
 pub(crate) fn turn_rules(scope: &Scope, wanted: &[Arg], ends: &[Label]) -> Rules
-    ensures { result ≡ spec.turn_rules (scope_values scope.now) (spec.arg_types wanted.now) ends.now }
+    ensures { result ≡ spec.turn_rules (scope_values scope.now)
+        (spec.arg_types wanted.now) ends.now }
 {
     Rules {
         in_scope: are_in_scope(scope, ends),

@@ -24,7 +24,8 @@ impl<'a> Outer<'a> {
     /// The type of the value with that label, found at the place of its item.
     #[tactic(auto, using(crate::proofs::TypeAtTop::top_other, crate::proofs::TypeAtTop::top_arg, crate::proofs::TypeAtTop::top_item, crate::proofs::TypeAtTop::top_behind))]
     fn type_of(&self, label: u32) -> Option<IrType>
-        ensures { result ≡ type_at (arg_values (label_at self.now.func 0 0) self.now.args.now ++ items_results self.now.func 1 self.now.items.now) label }
+        ensures { result ≡ type_at (arg_values (label_at self.now.func 0 0) self.now.args.now
+            ++ items_results self.now.func 1 self.now.items.now) label }
     {
         let place = Label(label);
         if place.func() != self.func {
@@ -44,7 +45,8 @@ impl<'a> Outer<'a> {
 
     #[tactic(auto, using(crate::proofs::NameAt::has_name_append, crate::proofs::NameAt::has_name_args, crate::proofs::NameAt::has_name_items))]
     fn has_name(&self, name: &[u8]) -> bool
-        ensures { result ≡ has_name (arg_values (label_at self.now.func 0 0) self.now.args.now ++ items_results self.now.func 1 self.now.items.now) name.now }
+        ensures { result ≡ has_name (arg_values (label_at self.now.func 0 0) self.now.args.now
+            ++ items_results self.now.func 1 self.now.items.now) name.now }
     {
         args_name(self.args, name) || items_name(self.items, name)
     }

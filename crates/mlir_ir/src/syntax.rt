@@ -1,4 +1,5 @@
 ghost use Rattle.std.specs.Prelude.{◌≡◌};
+ghost use Rattle.mlir_ir.specs.GrammarNumbers as numbers;
 
 use crate::token::Token;
 use arith_word::List;
@@ -43,6 +44,38 @@ pub enum Form {
     Flags,
 }
 
+/// The index of the form's production.
+pub fn form_number(form: Form) -> usize
+    ensures { result ≡ numbers.form_at form }
+{
+    match form {
+        Form::Leaf => 0,
+        Form::Whole => 1,
+        Form::Func => 2,
+        Form::Params => 3,
+        Form::Types => 4,
+        Form::Results => 5,
+        Form::TypeName => 6,
+        Form::Body => 7,
+        Form::Ends => 8,
+        Form::Uses => 9,
+        Form::Use => 10,
+        Form::Op => 11,
+        Form::Pack => 12,
+        Form::Kind => 13,
+        Form::Inits => 14,
+        Form::Region => 15,
+        Form::Flags => 16,
+    }
+}
+
+/// Whether two forms are the same.
+pub fn is_same_form(a: Form, b: Form) -> bool
+    ensures { result ≡ numbers.same_form a b }
+{
+    form_number(a) == form_number(b)
+}
+
 /// One place of the tree. The parts of a line are the tokens and lines that it was made of, in the
 /// order of the text; a token has none.
 #[derive(Debug, Drop)]
@@ -72,7 +105,8 @@ impl Branch {
     /// The branch of a line.
     #[tactic(auto, using(crate::proofs::Branches::put_is))]
     pub fn line(form: Form, token: u32, parts: Vec<Branch>) -> Branch
-        ensures { (rest : Forest) → put result rest ≡ node form token (forest parts.items) rest }
+        ensures { (rest : Forest)
+            → put result rest ≡ node form token (forest parts.items) rest }
     {
         Branch { form, token, parts }
     }

@@ -20,7 +20,8 @@ pub(crate) enum Search {
 #[tactic(auto)]
 fn search_args(args: &[Arg], left: u32, label: u32) -> Search
     requires { left ≤ label }
-    ensures { result ≡ searched (arg_values (label - left) args.now) (length args.now) left label }
+    ensures { result ≡ searched (arg_values (label - left) args.now)
+        (length args.now) left label }
 {
     if (left as usize) < args.len() {
         Search::Within(arg_type(label - left, args, label))
@@ -33,7 +34,8 @@ fn search_args(args: &[Arg], left: u32, label: u32) -> Search
 #[tactic(auto)]
 fn search_results(op: &Op, left: u32, label: u32) -> Search
     requires { left ≤ label }
-    ensures { result ≡ searched (result_values (label - left) op.now.packs op.now.results) (length op.now.results) left label }
+    ensures { result ≡ searched (result_values (label - left) op.now.packs op.now.results)
+        (length op.now.results) left label }
 {
     let results = op.results.as_slice();
     if (left as usize) < results.len() {
@@ -48,7 +50,8 @@ fn search_results(op: &Op, left: u32, label: u32) -> Search
 #[tactic(auto, using(crate::proofs::TypeSearches::behind_less))]
 fn search_kind(kind: &Kind, left: u32, label: u32) -> Search
     requires { left ≤ label }
-    ensures { result ≡ searched (kind_values (label - left) kind.now) (kind_labels kind.now) left label }
+    ensures { result ≡ searched (kind_values (label - left) kind.now)
+        (kind_labels kind.now) left label }
 {
     match kind {
         Kind::If(_, first, None) => search_region(first, left, label),
@@ -66,7 +69,8 @@ fn search_kind(kind: &Kind, left: u32, label: u32) -> Search
 #[tactic(auto, using(crate::proofs::TypeSearches::for_counter, crate::proofs::TypeSearches::for_iv, crate::proofs::TypeSearches::for_searched, crate::proofs::TypeSearches::behind_less))]
 fn search_for(parts: &ForParts, left: u32, label: u32) -> Search
     requires { left ≤ label }
-    ensures { result ≡ searched (for_values (label - left) parts.now) (for_labels parts.now) left label }
+    ensures { result ≡ searched (for_values (label - left) parts.now)
+        (for_labels parts.now) left label }
 {
     if left == 0 {
         return Search::Within(None);
@@ -84,7 +88,8 @@ fn search_for(parts: &ForParts, left: u32, label: u32) -> Search
 #[tactic(auto, using(crate::proofs::TypeSearches::while_counter, crate::proofs::TypeSearches::while_searched, crate::proofs::TypeSearches::behind_less))]
 fn search_while(parts: &WhileParts, left: u32, label: u32) -> Search
     requires { left ≤ label }
-    ensures { result ≡ searched (while_values (label - left) parts.now) (while_labels parts.now) left label }
+    ensures { result ≡ searched (while_values (label - left) parts.now)
+        (while_labels parts.now) left label }
 {
     if left == 0 {
         return Search::Within(None);
@@ -107,7 +112,8 @@ fn search_while(parts: &WhileParts, left: u32, label: u32) -> Search
 #[tactic(auto, using(crate::proofs::TypeSearches::region_searched))]
 fn search_region(region: &Region, left: u32, label: u32) -> Search
     requires { left ≤ label }
-    ensures { result ≡ searched (region_values (label - left) region.now) (region_labels region.now) left label }
+    ensures { result ≡ searched (region_values (label - left) region.now)
+        (region_labels region.now) left label }
 {
     search_ops(region.ops.as_slice(), left, label)
 }
@@ -130,7 +136,8 @@ fn search_op(op: &Op, left: u32, label: u32) -> Search
 #[tactic(auto, using(crate::proofs::TypeSearches::ops_here, crate::proofs::TypeSearches::ops_behind))]
 fn search_ops(ops: &[Op], left: u32, label: u32) -> Search
     requires { left ≤ label }
-    ensures { result ≡ searched (ops_values (label - left) ops.now) (ops_labels ops.now) left label }
+    ensures { result ≡ searched (ops_values (label - left) ops.now)
+        (ops_labels ops.now) left label }
 {
     let mut left = left;
     for op in ops {

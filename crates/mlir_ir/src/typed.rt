@@ -154,7 +154,8 @@ pub(crate) fn truth() -> IrType
 }
 
 fn is_for_typed(scope: &Scope, results: &[IrType], parts: &ForParts) -> bool
-    ensures { result ≡ spec.is_kind_typed (scope_values scope.now) results.now (Kind.For parts.now) }
+    ensures { result ≡ spec.is_kind_typed (scope_values scope.now) results.now
+        (Kind.For parts.now) }
 {
     has_type(scope, parts.iv.ty, parts.lower)
         && has_type(scope, parts.iv.ty, parts.upper)

@@ -78,7 +78,8 @@ pub(crate) fn have_types(scope: &Scope, types: &[IrType], labels: &[Label]) -> b
 /// Whether first values have the types of their arguments, as far as both lists go.
 #[tactic(auto, using(crate::proofs::TypedLabels::no_labels))]
 pub(crate) fn have_arg_types(scope: &Scope, args: &[Arg], labels: &[Label]) -> bool
-    ensures { result ≡ spec.have_types (scope_values scope.now) (spec.arg_types args.now) labels.now }
+    ensures { result ≡ spec.have_types (scope_values scope.now)
+        (spec.arg_types args.now) labels.now }
 {
     for (k, label) in labels.iter().enumerate() {
         if args.len() <= k {

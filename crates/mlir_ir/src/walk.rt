@@ -27,7 +27,8 @@ pub(crate) fn check_ops<'x>(
     ops: &'x [Op],
 ) -> Result<Position, Shape>
     requires { at.next + ops_labels_within (region_limit - nest.regions) ops.now < 2 ^ 32 }
-    ensures found { spec.first (spec.ops_breaks (scope_values scope.now) nest at ops.now) ≡ result_err result }
+    ensures found { spec.first (spec.ops_breaks (scope_values scope.now) nest at
+        ops.now) ≡ result_err result }
     ensures moved { IfOk result (λ behind. behind ≡ spec.past_ops ops.now at) }
 {
     let mut behind = at;
@@ -46,7 +47,8 @@ fn check_op<'x>(
     op: &'x Op,
 ) -> Result<Position, Shape>
     requires { at.next + op_labels_within (region_limit - nest.regions) op.now < 2 ^ 32 }
-    ensures found { spec.first (spec.op_breaks (scope_values scope.now) nest at op.now) ≡ result_err result }
+    ensures found { spec.first (spec.op_breaks (scope_values scope.now) nest at
+        op.now) ≡ result_err result }
     ensures moved { IfOk result (λ behind. behind ≡ spec.past_op op.now at) }
 {
     keep(at.last, op_rules(scope, nest, at, op))?;
@@ -67,7 +69,8 @@ fn check_kind<'x>(
 ) -> Result<Position, Shape>
     requires room { at.next + kind_labels_within (region_limit - nest.regions) kind.now < 2 ^ 32 }
     requires opens { IsTrue (is_kind_sized nest.regions nest.loops kind.now) }
-    ensures found { spec.first (spec.kind_breaks (scope_values scope.now) nest at results.now kind.now) ≡ result_err result }
+    ensures found { spec.first (spec.kind_breaks (scope_values scope.now) nest at
+        results.now kind.now) ≡ result_err result }
     ensures moved { IfOk result (λ behind. behind ≡ spec.past_kind kind.now at) }
 {
     match kind {
@@ -93,7 +96,8 @@ fn check_arm<'x>(
     region: &'x Region,
 ) -> Result<Position, Shape>
     requires { at.next + region_labels_within (region_limit - nest.regions) region.now < 2 ^ 32 }
-    ensures found { spec.first (spec.arm_breaks (scope_values scope.now) nest at wanted.now region.now) ≡ result_err result }
+    ensures found { spec.first (spec.arm_breaks (scope_values scope.now) nest at
+        wanted.now region.now) ≡ result_err result }
     ensures moved { IfOk result (λ behind. behind ≡ spec.past_region region.now at) }
 {
     let ops = region.ops.as_slice();
@@ -117,8 +121,10 @@ fn check_for<'x>(
     parts: &'x ForParts,
 ) -> Result<Position, Shape>
     requires { at.next + for_labels_within (region_limit - nest.regions) parts.now ≤ 2 ^ 32 }
-    ensures found { spec.first (spec.for_breaks (scope_values scope.now) nest at results.now parts.now) ≡ result_err result }
-    ensures moved { IfOk result (λ behind. behind ≡ spec.past (for_labels parts.now - 1) (spec.for_ops parts.now) at) }
+    ensures found { spec.first (spec.for_breaks (scope_values scope.now) nest at
+        results.now parts.now) ≡ result_err result }
+    ensures moved { IfOk result (λ behind. behind
+        ≡ spec.past (for_labels parts.now - 1) (spec.for_ops parts.now) at) }
 {
     let iv = slice::from_ref(&parts.iv);
     let behind_iv = check_args(scope, false, &[], at, iv)?;
@@ -140,8 +146,10 @@ fn check_while<'x>(
     parts: &'x WhileParts,
 ) -> Result<Position, Shape>
     requires { at.next + while_labels_within (region_limit - nest.regions) parts.now ≤ 2 ^ 32 }
-    ensures found { spec.first (spec.while_breaks (scope_values scope.now) nest at results.now parts.now) ≡ result_err result }
-    ensures moved { IfOk result (λ behind. behind ≡ spec.past (while_labels parts.now - 1) (spec.while_ops parts.now) at) }
+    ensures found { spec.first (spec.while_breaks (scope_values scope.now) nest at
+        results.now parts.now) ≡ result_err result }
+    ensures moved { IfOk result (λ behind. behind
+        ≡ spec.past (while_labels parts.now - 1) (spec.while_ops parts.now) at) }
 {
     let args = parts.args.as_slice();
     let in_before = check_args(scope, false, &[], at, args)?;
@@ -172,7 +180,8 @@ fn check_before<'x>(
     region: &'x Region,
 ) -> Result<Position, Shape>
     requires { at.next + region_labels_within (region_limit - nest.regions) region.now < 2 ^ 32 }
-    ensures found { spec.first (spec.before_breaks (scope_values scope.now) nest at results.now cond region.now) ≡ result_err result }
+    ensures found { spec.first (spec.before_breaks (scope_values scope.now) nest at
+        results.now cond region.now) ≡ result_err result }
     ensures moved { IfOk result (λ behind. behind ≡ spec.past_region region.now at) }
 {
     let ops = region.ops.as_slice();
@@ -196,7 +205,8 @@ fn check_turn<'x>(
     region: &'x Region,
 ) -> Result<Position, Shape>
     requires { at.next + region_labels_within (region_limit - nest.regions) region.now < 2 ^ 32 }
-    ensures found { spec.first (spec.turn_breaks (scope_values scope.now) nest at (arg_types wanted.now) region.now) ≡ result_err result }
+    ensures found { spec.first (spec.turn_breaks (scope_values scope.now) nest at
+        (arg_types wanted.now) region.now) ≡ result_err result }
     ensures moved { IfOk result (λ behind. behind ≡ spec.past_region region.now at) }
 {
     let ops = region.ops.as_slice();

@@ -8,7 +8,8 @@ use crate::types::{ForParts, Kind, Op, Region, WhileParts};
 /// be opened; `None` where there are fewer. No deeper region is looked into.
 #[cycle(within)]
 pub(crate) fn skip_ops_within(ops: &[Op], room: u32, left: u32) -> Option<u32>
-    ensures { MatchOption result (left < ops_labels_within room ops.now) (λ rest. rest + ops_labels_within room ops.now ≡ left) }
+    ensures { MatchOption result (left < ops_labels_within room ops.now)
+        (λ rest. rest + ops_labels_within room ops.now ≡ left) }
 {
     let mut left = left;
     for op in ops {
@@ -22,7 +23,8 @@ pub(crate) fn skip_ops_within(ops: &[Op], room: u32, left: u32) -> Option<u32>
 
 #[cycle(within)]
 fn skip_kind_within(kind: &Kind, room: u32, left: u32) -> Option<u32>
-    ensures { MatchOption result (left < kind_labels_within room kind.now) (λ rest. rest + kind_labels_within room kind.now ≡ left) }
+    ensures { MatchOption result (left < kind_labels_within room kind.now)
+        (λ rest. rest + kind_labels_within room kind.now ≡ left) }
 {
     if room == 0 {
         return Some(left);
@@ -32,7 +34,8 @@ fn skip_kind_within(kind: &Kind, room: u32, left: u32) -> Option<u32>
 
 #[cycle(within)]
 fn skip_opened(kind: &Kind, room: u32, left: u32) -> Option<u32>
-    ensures { MatchOption result (left < opened_labels room kind.now) (λ rest. rest + opened_labels room kind.now ≡ left) }
+    ensures { MatchOption result (left < opened_labels room kind.now)
+        (λ rest. rest + opened_labels room kind.now ≡ left) }
 {
     match kind {
         Kind::If(_, first, None) => skip_region_within(first, room, left),
@@ -49,7 +52,8 @@ fn skip_opened(kind: &Kind, room: u32, left: u32) -> Option<u32>
 
 #[cycle(within)]
 fn skip_for_within(parts: &ForParts, room: u32, left: u32) -> Option<u32>
-    ensures { MatchOption result (left < opened_labels room (Kind.For parts.now)) (λ rest. rest + opened_labels room (Kind.For parts.now) ≡ left) }
+    ensures { MatchOption result (left < opened_labels room (Kind.For parts.now))
+        (λ rest. rest + opened_labels room (Kind.For parts.now) ≡ left) }
 {
     let left = skip_list(parts.args.as_slice().len(), skip_list(2, left)?)?;
     Some(skip_region_within(&parts.body, room, left)?)
@@ -57,7 +61,8 @@ fn skip_for_within(parts: &ForParts, room: u32, left: u32) -> Option<u32>
 
 #[cycle(within)]
 fn skip_while_within(parts: &WhileParts, room: u32, left: u32) -> Option<u32>
-    ensures { MatchOption result (left < opened_labels room (Kind.While parts.now)) (λ rest. rest + opened_labels room (Kind.While parts.now) ≡ left) }
+    ensures { MatchOption result (left < opened_labels room (Kind.While parts.now))
+        (λ rest. rest + opened_labels room (Kind.While parts.now) ≡ left) }
 {
     let left = skip_list(parts.args.as_slice().len(), skip_list(1, left)?)?;
     let left = skip_region_within(&parts.before, room, left)?;
@@ -68,7 +73,8 @@ fn skip_while_within(parts: &WhileParts, room: u32, left: u32) -> Option<u32>
 #[cycle(within)]
 #[tactic(auto, using(crate::proofs::WithinRegions::region_within_items))]
 fn skip_region_within(region: &Region, room: u32, left: u32) -> Option<u32>
-    ensures { MatchOption result (left < region_labels_within room region.now) (λ rest. rest + region_labels_within room region.now ≡ left) }
+    ensures { MatchOption result (left < region_labels_within room region.now)
+        (λ rest. rest + region_labels_within room region.now ≡ left) }
 {
     skip_ops_within(region.ops.as_slice(), room, left)
 }

@@ -93,7 +93,8 @@ fn x_len(bytes: &[u8]) -> usize
 
 /// The length of the longest `0x` with hexadecimal digits that the bytes begin with, 0 without one.
 fn hex_len(first: u8, rest: &[u8]) -> usize
-    ensures { IsLongest (text.is_led 48 (text.is_led 120 text.is_hexadecimal)) (first ∷ rest.now) result }
+    ensures { IsLongest (text.is_led 48 (text.is_led 120 text.is_hexadecimal))
+        (first ∷ rest.now) result }
 {
     if first == b'0' {
         led_len(x_len(rest))
@@ -133,7 +134,8 @@ fn mark_len(first: u8, rest: &[u8]) -> usize
 /// The kind of the tokens that begin with the byte.
 #[tactic(auto, using(crate::proofs::Fronts::of_no_kind))]
 fn kind_of(first: u8) -> Option<TokenKind>
-    ensures { MatchOption result ((kind : TokenKind) → text.begins kind first ≡ false) (λ kind. text.begins kind first ≡ true) }
+    ensures { MatchOption result ((kind : TokenKind) → text.begins kind first ≡ false)
+        (λ kind. text.begins kind first ≡ true) }
 {
     if begins_word(first) {
         Some(TokenKind::Word)
@@ -172,7 +174,8 @@ fn kind_len(kind: TokenKind, first: u8, rest: &[u8]) -> usize
 
 /// The kind and the length of the longest token that the bytes begin with.
 pub fn token_front(bytes: &[u8]) -> Option<(TokenKind, usize)>
-    ensures { MatchOption result (text.NoneBegins bytes.now) (λ f. text.IsFront bytes.now f.0 f.1) }
+    ensures { MatchOption result (text.NoneBegins bytes.now)
+        (λ f. text.IsFront bytes.now f.0 f.1) }
 {
     match bytes.split_first() {
         None => None,

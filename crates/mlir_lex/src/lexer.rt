@@ -12,7 +12,9 @@ use std::alloc::{AllocError, Global};
 /// The longest token that the bytes begin with; `at` is their byte offset.
 fn token_here(alloc: Global, here: &[u8], at: u32) -> Result<Option<Token>, AllocError>
     requires { at + length here.now < 2 ^ 32 }
-    ensures { IfOk result (λ o. MatchOption o (NoneBegins here.now) (λ token. IsTokenAt at here.now token × (0 < length token.text) × (length token.text ≤ length here.now))) }
+    ensures { IfOk result (λ o. MatchOption o (NoneBegins here.now)
+        (λ token. IsTokenAt at here.now token
+        × (0 < length token.text) × (length token.text ≤ length here.now))) }
 {
     let Some((kind, len)) = token_front(here) else {
         return Ok(None)

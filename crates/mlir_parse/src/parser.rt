@@ -83,7 +83,8 @@ fn place(tokens: &[Token], length: u32, token: usize) -> u32
 #[tactic(auto, using(crate::proofs::Parsed::few_terminals, crate::proofs::Parsed::syntax_is, crate::proofs::Parsed::fault_at, crate::proofs::Parsed::refused_as))]
 pub fn parse(alloc: Global, text: &str) -> Result<Syntax, ParseFault>
     requires { length text.now < 2 ^ 32 }
-    ensures { MatchResult result (λ syntax. IsSyntaxOf text.now syntax) (λ e. IsRefused text.now e) }
+    ensures { MatchResult result (λ syntax. IsSyntaxOf text.now syntax)
+        (λ e. IsRefused text.now e) }
 {
     let found = tokens(alloc, text)?;
     let length = text.len() as u32;

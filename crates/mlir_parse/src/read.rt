@@ -8,9 +8,9 @@ ghost use Rattle.mlir_ir.specs.declared.terminal.Terminal.TheVariants.{Pick};
 ghost use Rattle.mlir_ir.specs.declared.syntax.Form.TheVariants.{TypeName, Use};
 
 use crate::fault::Fault;
-use crate::rule::{Rule, form_number, has, is_same};
+use crate::rule::{Rule, has};
 use mlir_ir::limits::REGION_LIMIT;
-use mlir_ir::{Branch, Form, Terminal};
+use mlir_ir::{Branch, Form, Terminal, form_number, is_same_terminal};
 use std::alloc::Global;
 
 /// The productions of the grammar, and the tokens to read.
@@ -34,7 +34,7 @@ fn may_begin(rule: &Rule, set: u64, tokens: &[Terminal], at: usize) -> bool
 fn next_is(terminal: Terminal, tokens: &[Terminal], at: usize) -> bool
     ensures { result ≡ is_next terminal (drop at tokens.now) }
 {
-    at < tokens.len() && is_same(terminal, tokens[at])
+    at < tokens.len() && is_same_terminal(terminal, tokens[at])
 }
 
 /// Reads one token, and appends its branch.

@@ -1,29 +1,11 @@
-ghost use Rattle.std.specs.Prelude.{◌≡◌, ◌≤◌, ◌++◌, [], ◌∷◌, codes, OnOk, string_bytes};
-ghost use Rattle.std.specs.Fmt.{signed_decimal};
-ghost use Rattle.arith_word.specs.Word.{signed_reading};
+ghost use Rattle.std.specs.Prelude.{◌≡◌, ◌++◌, [], ◌∷◌, codes, OnOk, string_bytes};
 ghost use Rattle.mlir_ir.specs.Canonical.{constant_text};
 
-use mlir_ir::IrType;
+use mlir_ir::{IrType, push_signed};
 use std::alloc::AllocError;
 
 /// The width of `index` in bits.
 const INDEX_BITS: u32 = 64;
-
-/// Adds the signed reading of `v` at that many bits.
-fn push_signed(out: &mut String, bits: u32, v: u64) -> Result<(), AllocError>
-    requires low { 1 ≤ bits }
-    requires high { bits ≤ 64 }
-    ensures { OnOk result (string_bytes out.new ≡ string_bytes out.old ++ signed_decimal (signed_reading bits v)) }
-{
-    let half = 1u64 << (bits - 1);
-    if v < half {
-        write!(out, "{v}")?;
-    } else {
-        let size = (half - 1 + half).saturating_sub(v) + 1;
-        write!(out, "-{size}")?;
-    }
-    Ok(())
-}
 
 fn push_value(out: &mut String, ty: IrType, v: u64) -> Result<(), AllocError>
     ensures { OnOk result (string_bytes out.new ≡ string_bytes out.old ++ constant_text v (ty ∷ [])) }
@@ -48,7 +30,8 @@ fn push_value(out: &mut String, ty: IrType, v: u64) -> Result<(), AllocError>
 
 /// Adds the operation of a constant with its type, which is left out at one bit.
 pub(crate) fn push_constant(out: &mut String, results: &[IrType], v: u64) -> Result<(), AllocError>
-    ensures { OnOk result (string_bytes out.new ≡ string_bytes out.old ++ (codes "arith.constant " ++ constant_text v results.now)) }
+    ensures { OnOk result (string_bytes out.new
+        ≡ string_bytes out.old ++ (codes "arith.constant " ++ constant_text v results.now)) }
 {
     write!(out, "arith.constant ")?;
     match results {

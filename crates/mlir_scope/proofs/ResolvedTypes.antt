@@ -105,7 +105,7 @@ less_test n m h = grind (arith, nat_tests)
 literal_less : (w : ℕ) (kind : Phrase) → (has terminals.Truth kind ≡ true → w ≡ 1) → nat_lt (literal w kind) (2 ^ w) ≡ true
 literal_less w kind h =
     elim (cases_Bool (has terminals.Truth kind)) [
-      | inl e ↦ rw (e, h e) (truth_less (bytes_eq (word kind).text (codes "true")))
+      | inl e ↦ rw (e, h e) (truth_less (bytes_eq (first_spot (spots terminals.Truth kind)).text (codes "true")))
       | inr e ↦ rw e (signed_less (has terminals.Minus kind))
     ]
   where

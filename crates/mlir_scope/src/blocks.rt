@@ -5,9 +5,8 @@ ghost use Rattle.mlir_ir.specs.declared.syntax.Form.TheVariants as forms;
 ghost use Rattle.mlir_scope.specs.Said.{said};
 ghost use Rattle.mlir_scope.specs.Blocks.{operations, with_operation};
 
-use crate::alike::{is_same, is_same_form};
 use crate::phrase::{Part, inside, next};
-use mlir_ir::{Branch, Form, Terminal, Token};
+use mlir_ir::{Branch, Form, Terminal, Token, is_same_form, is_same_terminal};
 
 /// Operations beside one another: those directly in a body or a region, or those of the region that
 /// comes next behind an operation's name.
@@ -31,7 +30,7 @@ pub struct Operation<'a> {
 fn parts_regions(terminal: Terminal) -> bool
     ensures { result ≡ source.parts_regions terminal }
 {
-    is_same(Terminal::Else, terminal) || is_same(Terminal::Do, terminal)
+    is_same_terminal(Terminal::Else, terminal) || is_same_terminal(Terminal::Do, terminal)
 }
 
 /// What stands behind the word before the second region; nothing where there is none.

@@ -8,7 +8,6 @@ ghost use Rattle.mlir_scope.specs.Reading.{use_said, type_said, written_said, de
 ghost use Rattle.mlir_scope.specs.Said.{said};
 ghost use Rattle.mlir_scope.specs.Scopes.{scope_said};
 
-use crate::alike::is_same_form;
 use crate::first::First;
 use crate::phrase::{Part, has, head, inside, next, word};
 use crate::said::{
@@ -17,7 +16,7 @@ use crate::said::{
 use crate::scope::Scope;
 use crate::uses::{note_differing, tys};
 use arith_word::CastOp;
-use mlir_ir::{Branch, Form, ScopeKind, Terminal, Token};
+use mlir_ir::{Branch, Form, ScopeKind, Terminal, Token, is_same_form};
 use std::alloc::{AllocError, Global};
 
 /// Puts the types that stand directly there behind those that were found.

@@ -3,7 +3,6 @@
 //! that a syntax stands for.
 #![tactic(auto)]
 
-mod alike;
 mod blocks;
 mod digits;
 mod endings;

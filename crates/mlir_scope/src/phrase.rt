@@ -4,8 +4,7 @@ ghost use Rattle.mlir_ir.specs.Phrases.{done};
 ghost use Rattle.mlir_ir.specs.Source as source;
 ghost use Rattle.mlir_scope.specs.Said.{said, with_part, spot_said, line_said};
 
-use crate::alike::{is_same, is_same_form};
-use mlir_ir::{Branch, Form, Terminal, Token};
+use mlir_ir::{Branch, Form, Terminal, Token, is_same_form, is_same_terminal};
 use mlir_parse::terminal_of;
 use std::alloc::{AllocError, Global};
 
@@ -64,7 +63,7 @@ pub fn first_spot<'a>(tokens: &'a [Token], parts: &'a [Branch], terminal: Termin
     'seek: while let Some((part, behind)) = next(tokens, rest) {
         rest = behind;
         if let Part::Single(at, found, text) = part {
-            if is_same(terminal, found) {
+            if is_same_terminal(terminal, found) {
                 return Spot { at, text };
             }
         }
@@ -80,7 +79,7 @@ pub fn has(tokens: &[Token], parts: &[Branch], terminal: Terminal) -> bool
     'seek: while let Some((part, behind)) = next(tokens, rest) {
         rest = behind;
         if let Part::Single(_, found, _) = part {
-            if is_same(terminal, found) {
+            if is_same_terminal(terminal, found) {
                 return true;
             }
         }
@@ -112,7 +111,7 @@ pub fn behind<'a>(tokens: &'a [Token], parts: &'a [Branch], terminal: Terminal) 
     'seek: while let Some((part, behind)) = next(tokens, rest) {
         rest = behind;
         if let Part::Single(_, found, _) = part {
-            if is_same(terminal, found) {
+            if is_same_terminal(terminal, found) {
                 return behind;
             }
         }
@@ -177,10 +176,10 @@ pub fn first_spot_before<'a>(
     'seek: while let Some((part, behind)) = next(tokens, rest) {
         rest = behind;
         if let Part::Single(at, found, text) = part {
-            if is_same(stop, found) {
+            if is_same_terminal(stop, found) {
                 return Spot { at: 0, text: &[] };
             }
-            if is_same(terminal, found) {
+            if is_same_terminal(terminal, found) {
                 return Spot { at, text };
             }
         }
@@ -203,7 +202,7 @@ pub fn inside_before<'a>(
         rest = behind;
         match part {
             Part::Single(_, found, _) => {
-                if is_same(stop, found) {
+                if is_same_terminal(stop, found) {
                     return &[];
                 }
             }

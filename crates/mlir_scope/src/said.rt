@@ -9,10 +9,9 @@ ghost use Rattle.mlir_ir.specs.declared.terminal.Terminal.TheVariants as termina
 ghost use Rattle.mlir_scope.specs.Said.{said, spot_said};
 ghost use Rattle.mlir_scope.specs.Reading.{use_said, packed_said, defined_said, written_said, type_said};
 
-use crate::alike::{is_same, is_same_form};
 use crate::digits::capped;
 use crate::phrase::{Part, Spot, first_spot, has, next};
-use mlir_ir::{Branch, Form, Terminal, Token};
+use mlir_ir::{Branch, Form, Terminal, Token, is_same_form, is_same_terminal};
 use std::alloc::{AllocError, Global};
 
 /// A name that is defined, at its token.
@@ -203,7 +202,7 @@ pub fn names_in<'a>(
     'seek: while let Some((part, behind)) = next(tokens, rest) {
         rest = behind;
         if let Part::Single(at, terminal, text) = part {
-            if is_same(Terminal::Value, terminal) {
+            if is_same_terminal(Terminal::Value, terminal) {
                 found.push(defined_at(Spot { at, text }))?;
             }
         }

@@ -4,10 +4,9 @@ ghost use Rattle.scev_server.specs.Expressions.{reading_text, symbol_text, term_
 ghost use Rattle.scev_server.specs.Plain.{IsPlainFunc};
 
 use crate::names::value_name;
-use crate::signed::push_signed;
 use arith_word::{Label, Width};
 use linear_scev::{Expr, Term};
-use mlir_ir::Func;
+use mlir_ir::{Func, push_signed};
 use std::alloc::AllocError;
 
 /// Adds a number in its signed reading; at one bit 0 or 1.

@@ -8,7 +8,6 @@ mod names;
 mod reply;
 mod serving;
 mod session;
-mod signed;
 mod small;
 mod status;
 

@@ -7,9 +7,8 @@ ghost use Rattle.scev_server.specs.Input.{command_text, commands_text, sessions_
 ghost use Rattle.scev_server.specs.Printed.{arg_use, item_use, label_text, label_use, op_name, ops_name, printed, printed_body, printed_ends, printed_func, printed_head, printed_items, printed_kind, printed_line, printed_ops, script_text};
 
 use crate::input::{Command, Input, Script};
-use crate::signed::push_signed;
 use arith_word::{BinOp, Label};
-use mlir_ir::{Arg, Body, Func, IrType, Item, Kind, Op};
+use mlir_ir::{Arg, Body, Func, IrType, Item, Kind, Op, push_signed};
 use std::alloc::{AllocError, Global};
 
 fn push_type(out: &mut String, ty: IrType) -> Result<(), AllocError>
