@@ -1,6 +1,6 @@
 -- The break that counts, as more breaks are noted.
 use Rattle.std.proofs.lemmas.List.{length-map}
-use Rattle.std.proofs.Common.{nat_eq, length, map, ◌≡◌, List, [], ◌∷◌, ◌++◌, Option, refl, ap, ◌∙◌, sym}
+use Rattle.std.proofs.Common.{nat_eq, length, map, append_assoc, ◌≡◌, List, [], ◌∷◌, ◌++◌, Option, refl, ap, ◌∙◌, sym}
 use Rattle.mlir_ir.specs.ScopeFaults.{Break, type_breaks}
 use Rattle.mlir_ir.specs.Source.{Use}
 use Rattle.mlir_ir.specs.Values.{Value}
@@ -34,3 +34,21 @@ same_lengths f g xs ys = rw (length-map xs f, length-map ys g) refl
 pub no_types : (scope : List Value) (uses : List Use) → type_breaks scope uses [] ≡ []
 no_types scope [] = refl
 no_types scope (u ∷ uses) = refl
+
+-- the same with the last parts together
+pub noted_pair : (best one three : Option ScopeFault) (a b c : List Break) → one ≡ noted best a → three ≡ noted one (b ++ c) → three ≡ noted best ((a ++ b) ++ c)
+noted_pair best one three a b c f g = noted_two best one three a (b ++ c) f g ∙ ap (noted best) (sym (append_assoc a b c))
+
+-- values that are put in scope in two steps
+pub put_twice : {X : Type 0} (old one two a b : List X) → one ≡ old ++ a → two ≡ one ++ b → two ≡ old ++ (a ++ b)
+put_twice old one two a b f g = g ∙ ap (λ xs. xs ++ b) f ∙ append_assoc old a b
+
+-- the parts of an operation with two regions, and of a loop with two, where a region is noted with its end
+pub noted_regions : (best one two three : Option ScopeFault) (a b c d e : List Break)
+    → one ≡ noted best a → two ≡ noted one (b ++ c) → three ≡ noted two (d ++ e) → three ≡ noted best ((((a ++ b) ++ c) ++ d) ++ e)
+noted_regions best one two three a b c d e f g h = noted_pair best two three ((a ++ b) ++ c) d e (noted_pair best one two a b c f g) h
+
+pub noted_loop : (best one two three four : Option ScopeFault) (a b c d e f : List Break)
+    → one ≡ noted best a → two ≡ noted one (b ++ c) → three ≡ noted two d → four ≡ noted three (e ++ f) → four ≡ noted best (((((a ++ b) ++ c) ++ d) ++ e) ++ f)
+noted_loop best one two three four a b c d e f i g h k =
+    noted_pair best three four (((a ++ b) ++ c) ++ d) e f (noted_two best two three ((a ++ b) ++ c) d (noted_pair best one two a b c i g) h) k

@@ -1,5 +1,5 @@
 -- The words of types, and the numbers of their digits.
-use Rattle.std.proofs.Common.{◌≡◌, ℕ, ◌≤◌, List, [], ◌∷◌, length, drop, codes, slice_get, if◌then◌else◌, Bool, true, false, ◌||◌, ◌&&◌, ◌==◌, ◌⊎◌, inl, inr, min, Option, Some, None, refl, ap, ◌∙◌, sym, arith}
+use Rattle.std.proofs.Common.{◌≡◌, ℕ, ◌+◌, ◌*◌, nat_le, ◌≤◌, List, [], ◌∷◌, length, drop, codes, slice_get, if◌then◌else◌, Bool, true, false, ◌||◌, ◌&&◌, ◌==◌, ◌⊎◌, inl, inr, min, Option, Some, None, refl, ap, ◌∙◌, sym, arith}
 use Rattle.std.proofs.lemmas.Bool.Decides.{nat_tests}
 use Rattle.std.specs.Char.{digit_value}
 use Rattle.std.specs.Str.{bytes_eq}
@@ -9,6 +9,7 @@ use Rattle.mlir_ir.specs.Phrases.{Phrase, line, Spot, spots, first_spot, phrase_
 use Rattle.mlir_ir.specs.Terminals.{terminal_of, kind_terminal, number_terminal, mark_terminal, arith_terminal, scf_terminal, func_terminal, flag_terminal, inner_terminal, or_else, is_type_word, is_integer, is_width, is_flagged_binary, is_binary, is_cast, is_predicate, is_return, is_call, is_truth}
 use Rattle.mlir_ir.specs.Tokens.{is_next}
 use Rattle.mlir_ir.specs.Source.{type_named}
+use Rattle.mlir_ir.specs.Words.{bits_of}
 use Rattle.mlir_ir.specs.Trees.{Forest, none, node}
 use Rattle.mlir_ir.specs.declared.types.IrType.TheVariants.{Int, Index}
 use Rattle.mlir_ir.specs.declared.token.Token.{Token}
@@ -176,3 +177,32 @@ type_is ts f text index digits tested n most word_is index_is test_is failed beh
     let cut : n ≡ min (digits_value 10 (drop 1 word)) most = n_is ∙ ap (λ ds. min (digits_value 10 ds) most) same_digits in
     let exact : n ≡ digits_value 10 (drop 1 word) = omega arith in
     (omega arith, ap Int exact ∙ sym (ap (λ b. if b then Index else Int (digits_value 10 (drop 1 word))) other_word))
+
+digit_small : (d : ℕ) → (nat_le 49 d && nat_le d 57) ≡ true → digit_value d ≤ 9
+digit_small d h = grind (arith, nat_tests)
+
+two_digits : (d e : ℕ) → ((nat_le 49 d && nat_le d 53 && nat_le 48 e && nat_le e 57) || (d == 54 && nat_le 48 e && nat_le e 52)) ≡ true
+    → digit_value d * 10 + digit_value e ≤ 64
+two_digits d e h = grind (arith, nat_tests)
+
+width_small : (ds : List ℕ) → is_width ds ≡ true → digits_value 10 ds ≤ 64
+width_small [] h = cc
+width_small (d ∷ []) h = omega (arith, digit_small d h)
+width_small (d ∷ e ∷ []) h = omega (arith, two_digits d e h)
+width_small (d ∷ e ∷ f ∷ rest) h = cc
+
+integer_small : (w : List ℕ) → is_integer w ≡ true → digits_value 10 (drop 1 w) ≤ 64
+integer_small [] h = cc
+integer_small (b ∷ bs) h = width_small bs (and_last (b == 105) (is_width bs) h)
+
+word_small : (w : List ℕ) → IsTyped w → bytes_eq w (codes "index") ≡ false → digits_value 10 (drop 1 w) ≤ 64
+word_small w (inl e) h = rw e (omega arith)
+word_small w (inr e) h = integer_small w (or_right (bytes_eq w (codes "index")) (is_integer w) e h)
+
+narrow_either : (b : Bool) (n : ℕ) → (b ≡ false → n ≤ 64) → bits_of (if b then Index else Int n) ≤ 64
+narrow_either true n h = omega arith
+narrow_either false n h = h refl
+
+-- no written type is wider than `index`
+pub narrow_type : (ts : List Token) (f : Forest) → bits_of (type_named (first_spot (spots TypeWord (phrase_of ts f))).text) ≤ 64
+narrow_type ts f = narrow_either _ _ (word_small (first_spot (spots TypeWord (phrase_of ts f))).text (typed ts f))

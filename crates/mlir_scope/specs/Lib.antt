@@ -9,3 +9,11 @@ pub mod Walked
 pub mod StandingFunctions
 pub mod InScope
 pub mod OperationWords
+pub mod Functions
+pub mod Texts
+pub mod Walks
+pub mod TextParts
+pub mod Knowns
+pub mod Built
+pub mod BuiltFunctions
+pub mod Unresolved

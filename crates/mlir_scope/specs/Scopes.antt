@@ -1,13 +1,14 @@
 -- The values that the code's scopes stand for.
-use Rattle.std.specs.Prelude.{List, map}
-use Rattle.std.specs.Str.Parse.{digits_value}
+use Rattle.std.specs.Prelude.{ℕ, List, map, find, Option}
+use Rattle.std.specs.Option.{option_map}
+use Rattle.std.specs.Str.{bytes_eq}
 use Rattle.mlir_ir.specs.Values.{Value}
-use Rattle.mlir_scope.specs.Reading.{type_said}
-use Rattle.mlir_scope.specs.declared.scope.Known.{Known}
+pub use Rattle.mlir_scope.specs.Knowns.{known_said}
 use Rattle.mlir_scope.specs.declared.scope.Scope.{Scope}
 
-abbrev pub known_said : Known → Value
-known_said v = record { label = v.label; name = v.name.now; count = digits_value 10 v.count.now; place = v.place; ty = type_said v.ty }
-
 abbrev pub scope_said : Scope → List Value
-scope_said scope = map known_said scope.values.items
+scope_said scope = map known_said scope.places.values.items
+
+-- the label of the first value that has the name
+abbrev pub label_named : List ℕ → List Value → Option ℕ
+label_named name values = option_map (λ (v : Value). v.label) (find (λ (v : Value). bytes_eq v.name name) values)

@@ -1,4 +1,4 @@
-ghost use Rattle.std.specs.Prelude.{◌≡◌, ◌≤◌, min};
+ghost use Rattle.std.specs.Prelude.{◌≡◌, ◌<◌, ◌≤◌, ◌%◌, min};
 ghost use Rattle.std.specs.Char as char;
 ghost use Rattle.std.specs.Str.Parse.{digits_value};
 
@@ -36,6 +36,20 @@ pub fn capped(radix: u8, digits: &[u8]) -> u128
     let mut value = 0;
     for digit in digits {
         value = (value * u128::from(radix) + u128::from(digit_value(*digit))).min(CAP);
+    }
+    value
+}
+
+/// The remainder, by so many words of a width, of the number that the digits write.
+pub(crate) fn remainder(radix: u8, digits: &[u8], words: u128) -> u128
+    requires some { 0 < words }
+    requires most { words ≤ CAP }
+    ensures value { result ≡ digits_value radix digits.now % words }
+    ensures less { result < words }
+{
+    let mut value = 0;
+    for digit in digits {
+        value = (value * u128::from(radix) + u128::from(digit_value(*digit))) % words;
     }
     value
 }

@@ -60,7 +60,11 @@ fn one_type(alloc: Global, ty: ValueType) -> Result<Vec<ValueType>, AllocError>
 }
 
 /// The types of an operation's uses, as written directly behind them.
-fn own_types(alloc: Global, tokens: &[Token], kind: &[Branch]) -> Result<Vec<ValueType>, AllocError>
+pub(crate) fn own_types(
+    alloc: Global,
+    tokens: &[Token],
+    kind: &[Branch],
+) -> Result<Vec<ValueType>, AllocError>
     ensures { IfOk result (λ v. map type_said v.items ≡ resolved.tys (source.types_in (said tokens.now kind.now))) }
 {
     let types = types_in(alloc, tokens, kind)?;
@@ -85,7 +89,7 @@ fn cast_types(
 }
 
 /// The types of the results of an operation without a list of its own.
-fn listed_results(
+pub(crate) fn listed_results(
     alloc: Global,
     tokens: &[Token],
     kind: &[Branch],

@@ -59,7 +59,7 @@ pub fn note_over(limit: usize, found: &[u32], first: &mut First)
 }
 
 /// Whether a token of the kind has a name of its own.
-fn has_value_name(kind: TokenKind) -> bool
+pub fn has_value_name(kind: TokenKind) -> bool
     ensures { result ≡ faults.has_value_name kind }
 {
     match kind {

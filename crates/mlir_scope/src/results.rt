@@ -122,7 +122,7 @@ fn push_pack<'a>(
 }
 
 /// How many of the types that are left the pack takes.
-fn share(pack: Packed, left: usize) -> usize
+pub(crate) fn share(pack: Packed, left: usize) -> usize
     requires { left < CAP }
     ensures { result ≡ min (packed_said pack.entry).count left }
 {
@@ -130,7 +130,7 @@ fn share(pack: Packed, left: usize) -> usize
 }
 
 /// So many types from that place on.
-fn part(types: &[ValueType], at: usize, many: usize) -> &[ValueType]
+pub(crate) fn part(types: &[ValueType], at: usize, many: usize) -> &[ValueType]
     requires { at + many ≤ length types.now }
     ensures { result.now ≡ take many (drop at types.now) }
 {

@@ -60,7 +60,7 @@ pub fn same_bytes(a: &[u8], b: &[u8]) -> bool
 }
 
 /// The name without the sign before it.
-fn unsigned(text: &[u8]) -> &[u8]
+pub(crate) fn unsigned(text: &[u8]) -> &[u8]
     ensures { result.now ≡ source.unsigned text.now }
 {
     match text.split_first() {

@@ -1,13 +1,14 @@
-ghost use Rattle.std.specs.Prelude.{◌≡◌, ◌≤◌, ◌++◌, ◌∷◌, [], map, length, take, OnOk};
+ghost use Rattle.std.specs.Prelude.{◌≡◌, ◌++◌, ◌∷◌, [], map, length, take, OnOk};
 ghost use Rattle.std.specs.Option.{option_map};
 ghost use Rattle.mlir_ir.specs.Rules.{has_name};
 ghost use Rattle.mlir_ir.specs.Resolved.{used, is_of};
 ghost use Rattle.mlir_ir.specs.Values.{Value};
-ghost use Rattle.mlir_scope.specs.Scopes.{scope_said, known_said};
+ghost use Rattle.mlir_scope.specs.Knowns.{known_said, at_name};
 ghost use Rattle.mlir_scope.specs.Reading.{use_said, type_said};
 
-use crate::digits::capped;
+use crate::digits::{CAP, capped};
 use crate::said::{Use, ValueType, same_bytes};
+use crate::table::Table;
 use std::alloc::{AllocError, Global};
 
 /// A value in scope: result `place`, from 0, of a pack whose count has these digits. The label
@@ -29,19 +30,6 @@ fn is_used(u: Use, known: &Known) -> bool
     same_bytes(known.name, u.name) && known.place as u128 == capped(10, u.pick)
 }
 
-/// Whether one of the values has the name.
-#[tactic(auto, using(crate::proofs::Parted::cut_here))]
-fn has_in(values: &[Known], name: &[u8]) -> bool
-    ensures { result ≡ has_name (map known_said values.now) name.now }
-{
-    'seek: for known in values {
-        if same_bytes(known.name, name) {
-            return true;
-        }
-    }
-    false
-}
-
 /// The type of the first value that is used.
 #[tactic(auto, using(crate::proofs::Parted::cut_here))]
 fn find_in(values: &[Known], u: Use) -> Option<ValueType>
@@ -58,16 +46,22 @@ fn find_in(values: &[Known], u: Use) -> Option<ValueType>
 /// The values in scope.
 #[derive(Drop)]
 pub struct Scope<'a> {
-    pub values: Vec<Known<'a>>,
+    places: Table<'a>,
+    // The same values at place 0, to be found by their names alone.
+    names: Table<'a>,
+    ghost same: { map known_said names.values.items ≡ map at_name (map known_said places.values.items) },
 }
 
 impl<'a> Scope<'a> {
+    ghost use Rattle.mlir_scope.specs.Scopes.{scope_said, label_named};
+
     /// No values.
     pub fn new(alloc: Global) -> Scope<'a>
         ensures { scope_said result ≡ [] }
     {
         Scope {
-            values: Vec::new(alloc),
+            places: Table::new(alloc),
+            names: Table::new(alloc),
         }
     }
 
@@ -75,14 +69,26 @@ impl<'a> Scope<'a> {
     pub fn len(&self) -> usize
         ensures { result ≡ length (scope_said self.now) }
     {
-        self.values.len()
+        self.places.len()
     }
 
     /// Puts a value behind those in scope.
     pub fn push(&mut self, known: Known<'a>) -> Result<(), AllocError>
         ensures { OnOk result (scope_said self.new ≡ scope_said self.old ++ known_said known.entry ∷ []) }
     {
-        self.values.push(known)?;
+        let len = self.places.len();
+        self.places.push(known)?;
+        let named = Known {
+            label: known.label,
+            name: known.name,
+            count: known.count,
+            place: 0,
+            ty: known.ty,
+        };
+        if self.names.push(named).is_err() {
+            self.places.truncate(len);
+            return Err(AllocError);
+        }
         Ok(())
     }
 
@@ -90,20 +96,39 @@ impl<'a> Scope<'a> {
     pub fn truncate(&mut self, len: usize)
         ensures { scope_said self.new ≡ take len (scope_said self.old) }
     {
-        self.values.truncate(len);
+        self.places.truncate(len);
+        self.names.truncate(len);
     }
 
     /// Whether a value has the name.
     pub fn has(&self, name: &[u8]) -> bool
         ensures { result ≡ has_name (scope_said self.now) name.now }
     {
-        has_in(self.values.as_slice(), name)
+        self.names.find(name, 0).is_some()
+    }
+
+    /// The label of the first value that has the name.
+    pub fn first_named(&self, name: &[u8]) -> Option<usize>
+        ensures { result ≡ label_named name.now (scope_said self.now) }
+    {
+        match self.names.find(name, 0) {
+            Some(known) => Some(known.label),
+            None => None,
+        }
     }
 
     /// The type of the value that is used.
     pub fn find(&self, u: Use) -> Option<ValueType>
         ensures { option_map type_said result ≡ option_map (λ (v : Value). v.ty) (used (scope_said self.now) (use_said u.entry)) }
     {
-        find_in(self.values.as_slice(), u)
+        let pick = capped(10, u.pick);
+        if pick >= CAP {
+            // No value has such a place; the values are passed one by one, to have it proved.
+            return find_in(self.places.all(), u);
+        }
+        match self.places.find(u.name, pick as usize) {
+            Some(known) => Some(known.ty),
+            None => None,
+        }
     }
 }

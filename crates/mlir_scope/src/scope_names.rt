@@ -45,6 +45,13 @@ impl<'a> ScopeNames<'a> {
         self.values.len()
     }
 
+    /// The values in the order in which they were pushed.
+    pub fn as_slice(&self) -> &[Named<'a>]
+        ensures { result.now ≡ self.now.values.items }
+    {
+        self.values.as_slice()
+    }
+
     /// The first value with that name and place.
     #[tactic(auto, using(crate::proofs::FirstPlaces::find_at_position, crate::proofs::FirstPlaces::find_none))]
     pub fn find(&self, name: &[u8], place: u32) -> Option<Named<'a>>
