@@ -1,6 +1,9 @@
-//! Tests of the shared table: sixteen threads on one table, and events that are replayed.
+//! Tests of the shared table: sixteen threads on one table, events that are replayed, and expressions
+//! that are interned.
 #![tactic(auto)]
 
+#[cfg(test)]
+mod expressions;
 #[cfg(test)]
 mod plain;
 #[cfg(test)]

@@ -1,7 +1,9 @@
 use crate::plain::Plain;
 use crate::session::{Session, sessions_of};
 use crate::single::{Single, steps_are_same};
-use shared_table::{Sizes, open};
+use arith_word::{Label, Width};
+use scev_tree::{chain, num};
+use shared_table::{Node, Sizes, open};
 use sqlite_items::Items;
 use std::test::Fail;
 use std::thread;
@@ -78,5 +80,27 @@ fn a_run_is_replayed(rt: HostRuntime) -> Result<(), Fail> {
         words,
     };
     assert!(rt; steps_are_same(&mut single, 1_000));
+    Ok(())
+}
+
+#[test]
+#[tactic(auto, using(crate::proofs::Authors::is_64, crate::proofs::Authors::all_dealt))]
+fn equal_expressions_have_one_node(rt: HostRuntime) -> Result<(), Fail> {
+    let alloc = rt.alloc();
+    let sizes = Sizes {
+        cells: 64,
+        memo: 64,
+    };
+    let Some(width) = Width::new(32) else {
+        return Ok(());
+    };
+    let (shared, passes) = open::<Plain>(alloc, b"", 1, sizes)?;
+    let Some(mut session) = sessions_of(alloc, &shared, passes)?.pop() else {
+        return Ok(());
+    };
+    // The number is in the cell 15.
+    assert_eq!(rt; session.node_of(&num(width, 1)), Some(Node(30)));
+    let e = chain(alloc, width, Label(3), &[5, 7])?;
+    assert!(rt; session.has_one_node(alloc, &e)?);
     Ok(())
 }

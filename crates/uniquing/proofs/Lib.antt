@@ -1,0 +1,11 @@
+pub mod Seeing
+pub mod Filling
+pub mod Joining
+pub mod Shaping
+pub mod Forms
+pub mod Looking
+pub mod Histories
+pub mod Kept
+pub mod Telling
+pub mod Rebuilding
+pub mod NodeReads

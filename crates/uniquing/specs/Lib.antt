@@ -1,0 +1,4 @@
+pub mod Nodes
+pub mod Interned
+pub mod Reads
+pub mod Closing
