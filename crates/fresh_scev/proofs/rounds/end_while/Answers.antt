@@ -1,0 +1,12 @@
+use Rattle.std.proofs.Common.{length}
+use Rattle.std.proofs.lemmas.Result.{on_ok_weaker}
+use Rattle.arith_word.specs.Labels.{label_at}
+use Rattle.fresh_scev.proofs.LoopRounds.{while_ends}
+use Rattle.fresh_scev.proofs.rounds.end_while.Goals as goal
+
+pub returns : goal.returns
+returns c =
+    let u = c.args.t.now in
+    on_ok_weaker c.define_passed_on.result
+    (λ more. while_ends c.args.h.now c.args.passed.now c.args.results.now u c.settle.new.t c.define_passed_on.new.t (label_at u.func (length u.items) c.args.at) c.in_ok-turns.turns
+    c.requires.label c.settle.ensures c.in_ok-turns.ensures more) c.define_passed_on.ensures

@@ -1,0 +1,55 @@
+ghost use Rattle.std.specs.Prelude.{◌≡◌, [], IfOk};
+ghost use Rattle.mlir_ir.specs.Check.{IsWellFormed};
+ghost use Rattle.mlir_ir.specs.View.{view_items};
+ghost use Rattle.fresh_scev.specs.Answers.{facts_shown};
+ghost use Rattle.fresh_scev.specs.Facts.{IsFacts, items_in};
+ghost use Rattle.fresh_scev.specs.UnderWay.{HasFirstItems};
+ghost use Rattle.fresh_scev.specs.Widths.{HaveWidths};
+
+use crate::facts::Facts;
+use crate::owns::define_own;
+use crate::parts::types_of;
+use crate::table::Table;
+use crate::walk::walk_ops;
+use mlir_ir::{Func, Item};
+use std::alloc::{AllocError, Global};
+
+/// The items of a function; a declaration has none.
+fn items_of(f: &Func) -> &[Item]
+    ensures { view_items result.now ≡ items_in f.entry.now.body }
+{
+    match &f.body {
+        Some(body) => body.items.as_slice(),
+        None => &[],
+    }
+}
+
+/// A table of the facts of a function's arguments.
+fn arguments_table(alloc: Global, f: &Func) -> Result<Table, AllocError>
+    requires { IsWellFormed f.now }
+    ensures { IfOk result (λ t. HasFirstItems f.now t []) }
+{
+    let mut t = Table::new(alloc, f.index);
+    let types = types_of(alloc, f.args.as_slice())?;
+    define_own(&mut t, &types)?;
+    t.seal()?;
+    Ok(t)
+}
+
+/// The facts of a function: the expressions of all its values, each with the width of the value's
+/// type, and the trip counts of all its loops.
+pub fn analyse(alloc: Global, f: &Func) -> Result<Facts, AllocError>
+    requires { IsWellFormed f.now }
+    ensures facts { IfOk result (λ facts. IsFacts f.now (facts_shown facts)) }
+    ensures widths { IfOk result (λ facts. HaveWidths f.now (facts_shown facts)) }
+{
+    let mut t = arguments_table(alloc, f)?;
+    for item in items_of(f) {
+        walk_ops(&mut t, item.ops.as_slice())?;
+        t.seal()?;
+    }
+    Ok(Facts {
+        func: t.func,
+        items: t.items,
+    })
+}
