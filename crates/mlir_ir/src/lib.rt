@@ -30,6 +30,7 @@ mod typed;
 mod types;
 mod uses;
 mod walk;
+mod width;
 mod within;
 
 pub use label_laws::labels_of_functions;
@@ -37,7 +38,7 @@ pub use laws::{
     breaks_of_functions, budgets_extend_runs, places_of_functions, traces_grow,
     well_formed_functions,
 };
-pub use loop_labels::loops;
+pub use loop_labels::{LoopLabels, loops};
 pub use module::Module;
 pub use names::{is_digit, is_letter, is_name, is_name_byte};
 pub use rules::{Nest, Position, Rules};

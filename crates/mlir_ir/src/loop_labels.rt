@@ -1,17 +1,25 @@
-ghost use Rattle.std.specs.Prelude.{◌≡◌, ◌+◌, ◌<◌, ◌≤◌, ◌^◌, ◌++◌, length, IfOk, OnOk};
+ghost use Rattle.std.specs.Prelude.{◌≡◌, [], ◌∷◌, ◌+◌, ◌<◌, ◌≤◌, ◌^◌, ◌++◌, length, IfOk, OnOk};
 ghost use Rattle.std.specs.List.{All};
 ghost use Rattle.mlir_ir.specs.Labels.{kind_labels, ops_labels, region_labels, for_labels, while_labels};
 ghost use Rattle.mlir_ir.specs.Limits.{item_limit};
-ghost use Rattle.mlir_ir.specs.Loops.{kind_loops, ops_loops, region_loops, for_loops, while_loops, items_loops, func_loops, HasFewItems};
+ghost use Rattle.mlir_ir.specs.Loops.{loop_at, kind_loops, ops_loops, region_loops, for_loops, while_loops, items_loops, func_loops, HasFewItems};
 ghost use Rattle.mlir_ir.specs.Places.{DoLabelsFit, HasFewLabels};
 
 use crate::types::{ForParts, Func, Item, Kind, Op, Region, WhileParts};
 use arith_word::{Label, List};
 use std::alloc::{AllocError, Global};
 
+/// The labels of a loop: that of its counter, which is the first of the loop's operation, and the one
+/// behind its inside, which its first result has where it has any.
+#[derive(Clone, Copy, Debug, PartialEq, Eq)]
+pub struct LoopLabels {
+    pub counter: Label,
+    pub behind: Label,
+}
+
 /// Adds the loops inside an operation that begins with a label. Returns the label behind them.
 #[cycle(loops)]
-fn push_kind(out: &mut Vec<Label>, at: u32, kind: &Kind) -> Result<u32, AllocError>
+fn push_kind(out: &mut Vec<LoopLabels>, at: u32, kind: &Kind) -> Result<u32, AllocError>
     requires { at + kind_labels kind.now < 2 ^ 32 }
     ensures loops { OnOk result (out.new.items ≡ out.old.items ++ kind_loops at kind.now) }
     ensures behind { IfOk result (λ behind. behind ≡ at + kind_labels kind.now) }
@@ -28,33 +36,56 @@ fn push_kind(out: &mut Vec<Label>, at: u32, kind: &Kind) -> Result<u32, AllocErr
     }
 }
 
+/// Adds a loop of which the inside isn't walked yet. Returns its place.
+fn push_counter(out: &mut Vec<LoopLabels>, at: u32) -> Result<usize, AllocError>
+    ensures added { OnOk result (out.new.items ≡ out.old.items ++ loop_at at 0 ∷ []) }
+    ensures place { IfOk result (λ place. place ≡ length out.old.items) }
+{
+    let place = out.len();
+    out.push(LoopLabels {
+        counter: Label(at),
+        behind: Label(at),
+    })?;
+    Ok(place)
+}
+
 #[cycle(loops)]
-fn push_for(out: &mut Vec<Label>, at: u32, parts: &ForParts) -> Result<u32, AllocError>
+fn push_for(out: &mut Vec<LoopLabels>, at: u32, parts: &ForParts) -> Result<u32, AllocError>
     requires { at + for_labels parts.now < 2 ^ 32 }
     ensures loops { OnOk result (out.new.items ≡ out.old.items ++ for_loops at parts.now) }
     ensures behind { IfOk result (λ behind. behind ≡ at + for_labels parts.now) }
 {
-    out.push(Label(at))?;
+    let place = push_counter(out, at)?;
     let in_body = at + 2 + parts.args.as_slice().len() as u32;
-    Ok(push_region(out, in_body, &parts.body)?)
+    let behind = push_region(out, in_body, &parts.body)?;
+    out[place] = LoopLabels {
+        counter: Label(at),
+        behind: Label(behind),
+    };
+    Ok(behind)
 }
 
 #[cycle(loops)]
-fn push_while(out: &mut Vec<Label>, at: u32, parts: &WhileParts) -> Result<u32, AllocError>
+fn push_while(out: &mut Vec<LoopLabels>, at: u32, parts: &WhileParts) -> Result<u32, AllocError>
     requires { at + while_labels parts.now < 2 ^ 32 }
     ensures loops { OnOk result (out.new.items ≡ out.old.items ++ while_loops at parts.now) }
     ensures behind { IfOk result (λ behind. behind ≡ at + while_labels parts.now) }
 {
-    out.push(Label(at))?;
+    let place = push_counter(out, at)?;
     let in_before = at + 1 + parts.args.as_slice().len() as u32;
     let behind = push_region(out, in_before, &parts.before)?;
     let in_after = behind + parts.after_args.as_slice().len() as u32;
-    Ok(push_region(out, in_after, &parts.after)?)
+    let behind = push_region(out, in_after, &parts.after)?;
+    out[place] = LoopLabels {
+        counter: Label(at),
+        behind: Label(behind),
+    };
+    Ok(behind)
 }
 
 #[cycle(loops)]
 #[tactic(auto, using(crate::proofs::LoopOrder::region_loops_items, crate::proofs::RegionItems::region_labels_items))]
-fn push_region(out: &mut Vec<Label>, at: u32, region: &Region) -> Result<u32, AllocError>
+fn push_region(out: &mut Vec<LoopLabels>, at: u32, region: &Region) -> Result<u32, AllocError>
     requires { at + region_labels region.now < 2 ^ 32 }
     ensures loops { OnOk result (out.new.items ≡ out.old.items ++ region_loops at region.now) }
     ensures behind { IfOk result (λ behind. behind ≡ at + region_labels region.now) }
@@ -64,7 +95,7 @@ fn push_region(out: &mut Vec<Label>, at: u32, region: &Region) -> Result<u32, Al
 
 /// Adds the loops of operations of which the first begins with a label. Returns the label behind them.
 #[cycle(loops)]
-fn push_ops(out: &mut Vec<Label>, at: u32, ops: &[Op]) -> Result<u32, AllocError>
+fn push_ops(out: &mut Vec<LoopLabels>, at: u32, ops: &[Op]) -> Result<u32, AllocError>
     requires { at + ops_labels ops.now < 2 ^ 32 }
     ensures loops { OnOk result (out.new.items ≡ out.old.items ++ ops_loops at ops.now) }
     ensures behind { IfOk result (λ behind. behind ≡ at + ops_labels ops.now) }
@@ -78,7 +109,7 @@ fn push_ops(out: &mut Vec<Label>, at: u32, ops: &[Op]) -> Result<u32, AllocError
 }
 
 /// Adds the loops of the items of the function at that place.
-fn push_items(out: &mut Vec<Label>, func: u8, items: &[Item]) -> Result<(), AllocError>
+fn push_items(out: &mut Vec<LoopLabels>, func: u8, items: &[Item]) -> Result<(), AllocError>
     requires few { length items.now ≤ item_limit }
     requires fit { All HasFewLabels items.now }
     ensures { OnOk result (out.new.items ≡ out.old.items ++ items_loops func 1 items.now) }
@@ -90,12 +121,12 @@ fn push_items(out: &mut Vec<Label>, func: u8, items: &[Item]) -> Result<(), Allo
     Ok(())
 }
 
-/// The labels of the function's loops, which are those of their counters, in the order of the text.
+/// The function's loops in the order of the text.
 /// Loop number k of the function is the one at place k.
-pub fn loops(alloc: Global, func: &Func) -> Result<List<Label>, AllocError>
+pub fn loops(alloc: Global, func: &Func) -> Result<List<LoopLabels>, AllocError>
     requires few { HasFewItems func.now }
     requires fit { DoLabelsFit func.now }
-    ensures { IfOk result (λ labels. labels ≡ func_loops func.now) }
+    ensures { IfOk result (λ loops. loops ≡ func_loops func.now) }
 {
     let mut out = Vec::new(alloc);
     if let Some(body) = &func.body {

@@ -9,16 +9,6 @@ use arith_word::{Label, List, Width, Word};
 use mlir_ir::{Arg, IrType};
 use std::alloc::AllocError;
 
-/// The width of a type in bits.
-pub(crate) fn width_of(ty: IrType) -> Width
-    ensures { result ≡ bits_of ty }
-{
-    match ty {
-        IrType::Int(width) => width,
-        IrType::Index => Width::new(64).unwrap(),
-    }
-}
-
 /// The number modulo 2 to the width.
 #[tactic(auto, using(arith_word::proofs::Residues::low_bits_are))]
 pub(crate) fn word(w: Width, v: u64) -> Word
@@ -112,6 +102,6 @@ pub(crate) fn give(values: &mut Vec<Word>, pos: usize, types: &[IrType], unsigne
 {
     let n = types.len().min(unsigned.len());
     for k in 0..n {
-        write(values, pos + k, word(width_of(types[k]), unsigned[k]));
+        write(values, pos + k, word(types[k].width(), unsigned[k]));
     }
 }

@@ -5,7 +5,7 @@ ghost use Rattle.scf_eval.specs.Machine as spec;
 ghost use Rattle.scf_eval.specs.States.{slots, numbers};
 
 use crate::input::Input;
-use crate::memory::{read, width_of, word};
+use crate::memory::{read, word};
 use arith_word::{BinOp, CastOp, Pred, Step, Width, Word, apply, cast, compare};
 use mlir_ir::{IrType, Kind};
 
@@ -16,7 +16,7 @@ pub(crate) fn result_width(results: &[IrType]) -> Width
     if results.is_empty() {
         Width::new(1).unwrap()
     } else {
-        width_of(results[0])
+        results[0].width()
     }
 }
 
