@@ -4,12 +4,12 @@ use Rattle.arith_word.specs.declared.label.Label.{Label}
 use Rattle.mlir_ir.specs.declared.types.IrType.{IrType}
 use Rattle.scev_tree.specs.declared.expr.Expr.{Expr}
 use Rattle.fresh_scev.specs.Expressions.{Expression, expression_of}
-use Rattle.fresh_scev.specs.Facts.{Facts, AreOwn, AreAlike, AreNext, Loop, Rounds, round_limit}
+use Rattle.fresh_scev.specs.Facts.{Facts, untested, AreOwn, AreAlike, AreNext, Loop, Rounds, round_limit}
 use Rattle.fresh_scev.specs.Loops.{IsNext, solved, stays, IsSolution}
 use Rattle.fresh_scev.specs.Still.{AreStill}
 
 pub alike_self : (F : Facts) (n : ℕ) → AreAlike F F n
-alike_self F n = record { exprs = λ l lt. refl; tests = λ l lt. refl }
+alike_self F n = record { exprs = λ l lt. refl; roles = λ l lt. refl }
 
 pub inside_of : (loop : Loop) (Inside : Facts → Type 0) (n : ℕ) (F : Facts) → Rounds loop Inside n F → Inside F
 inside_of loop Inside zero F r = r.1
@@ -45,7 +45,7 @@ next_by_solution loop w label old init yielded None s = stays s refl
 -- values without tests, which are their own symbols where there is nothing to solve
 abbrev ArePlaced : Facts → ℕ → List IrType → List Label → List Label → Type 0
 ArePlaced F label [] inits ends = Unit {0}
-ArePlaced F label (ty ∷ tys) (i ∷ inits) (y ∷ ends) = (F.test label ≡ None) × ArePlaced F (label + 1) tys inits ends
+ArePlaced F label (ty ∷ tys) (i ∷ inits) (y ∷ ends) = (F.role label ≡ untested) × ArePlaced F (label + 1) tys inits ends
 ArePlaced F label tys inits ends = AreOwn F label tys
 
 own_placed : (F : Facts) (label : ℕ) (tys : List IrType) (inits ends : List Label) → AreOwn F label tys → ArePlaced F label tys inits ends

@@ -8,9 +8,10 @@ use Rattle.fresh_scev.specs.declared.fact.Fact.{Fact}
 use Rattle.fresh_scev.specs.declared.fact.Fact.TheVariants.{Loop}
 use Rattle.fresh_scev.specs.declared.table.Table.{Table}
 use Rattle.fresh_scev.specs.Expressions.{number, IsBefore}
+use Rattle.fresh_scev.specs.Facts.{counts}
 use Rattle.fresh_scev.specs.SameFacts.{IsTestBelow}
 use Rattle.fresh_scev.specs.Settled.{Settles}
-use Rattle.fresh_scev.specs.Table.{fact_at, expr_in, test_in, turns_in, facts_of, next_label, HasRoom, AreKnown, IsSameTable, Grows}
+use Rattle.fresh_scev.specs.Table.{fact_at, expr_in, role_in, turns_in, facts_of, next_label, HasRoom, AreKnown, IsSameTable, Grows}
 use Rattle.fresh_scev.proofs.Before.{number_before}
 use Rattle.fresh_scev.proofs.TableFacts.{fact_earlier, fact_other, fact_here, no_both}
 
@@ -66,14 +67,14 @@ module _ (s u v : Table) (n : ℕ) (a : Grows s u n) (room : length s.here.items
   pub fact_gone : (l : ℕ) → next_label v ≤ l → fact_at v.func (v.items ++ v.here.items ∷ []) l ≡ None
   fact_gone l le = fact_behind v.func v.items v.here.items l le
 
-  cut_known : (l : ℕ) → IsBefore (l + 1) ((facts_of v).expr l) × IsTestBelow ((facts_of v).test l) l
+  cut_known : (l : ℕ) → IsBefore (l + 1) ((facts_of v).expr l) × IsTestBelow ((facts_of v).role l) l
   cut_known l = elim (cases_lt l (next_label v)) [
     | inl lt ↦
         let e = fact_left l lt in
-        (subst (λ f. IsBefore (l + 1) (expr_in f)) (sym e) (a.known.exprs l), subst (λ f. IsTestBelow (test_in f) l) (sym e) (a.known.tests l))
+        (subst (λ f. IsBefore (l + 1) (expr_in f)) (sym e) (a.known.exprs l), subst (λ f. IsTestBelow (role_in f) l) (sym e) (a.known.roles l))
     | inr ge ↦
         let e = fact_gone l ge in
-        (number_before 1 0 (l + 1) ((facts_of v).expr l) (ap expr_in e), subst (λ f. IsTestBelow (test_in f) l) (sym e) tt)
+        (number_before 1 0 (l + 1) ((facts_of v).expr l) (ap expr_in e), subst (λ f. IsTestBelow (role_in f) l) (sym e) tt)
   ]
 
   pub cut_grows : Grows s v 0
@@ -85,10 +86,10 @@ module _ (s u v : Table) (n : ℕ) (a : Grows s u n) (room : length s.here.items
         longer = omega (arith, long);
         stay = record {
           exprs = λ l lt. a.stay.exprs l lt ∙ sym (ap expr_in (fact_left l (omega (arith, lt, next))));
-          tests = λ l lt. a.stay.tests l lt ∙ sym (ap test_in (fact_left l (omega (arith, lt, next))));
+          roles = λ l lt. a.stay.roles l lt ∙ sym (ap role_in (fact_left l (omega (arith, lt, next))));
           turns = λ l ge lt. a.stay.turns l ge lt ∙ sym (ap turns_in (fact_left l (omega (arith, lt, next))));
         };
-        known = record { exprs = λ l. (cut_known l).0; tests = λ l. (cut_known l).1 };
+        known = record { exprs = λ l. (cut_known l).0; roles = λ l. (cut_known l).1 };
       }
 
 -- ---- a table in which one trip count changes
@@ -117,31 +118,31 @@ module _ (u v : Table) (i : ℕ) (t : Turns) (room : HasRoom u 0) (low : i < len
       let indices = room.indices in
       rw (same.func, same.items, is_set) (fact_here u.func u.items (set u.here.items i (Loop t)) i room.item (omega (arith, indices, low)) ∙ set_here u.here.items i (Loop t) low)
 
-  -- the counter has no expression and no test of its own
-  values_stay : (facts_of u).expr at ≡ number 1 0 → (facts_of u).test at ≡ None → (l : ℕ) → ((facts_of u).expr l ≡ (facts_of v).expr l) × ((facts_of u).test l ≡ (facts_of v).test l)
-  values_stay expr test l = elim (cases_Bool (l == at)) [
+  -- the counter has no expression
+  values_stay : (facts_of u).expr at ≡ number 1 0 → (facts_of u).role at ≡ counts → (l : ℕ) → ((facts_of u).expr l ≡ (facts_of v).expr l) × ((facts_of u).role l ≡ (facts_of v).role l)
+  values_stay expr named l = elim (cases_Bool (l == at)) [
     | inl here ↦
         let e : l ≡ at = eqb-true l at here in
-        rw e (expr ∙ sym (ap expr_in this_fact), test ∙ sym (ap test_in this_fact))
+        rw e (expr ∙ sym (ap expr_in this_fact), named ∙ sym (ap role_in this_fact))
     | inr off ↦
         let e = other_fact l (λ e. no_both (l == at) (eq-eqb l at e) off) in
-        (ap expr_in e, ap test_in e)
+        (ap expr_in e, ap role_in e)
   ]
 
-  pub set_settles : (facts_of u).expr (label_at u.func (length u.items) i) ≡ number 1 0 → (facts_of u).test (label_at u.func (length u.items) i) ≡ None → AreKnown (facts_of u)
+  pub set_settles : (facts_of u).expr (label_at u.func (length u.items) i) ≡ number 1 0 → (facts_of u).role (label_at u.func (length u.items) i) ≡ counts → AreKnown (facts_of u)
       → Settles u v (label_at u.func (length u.items) i) t
-  set_settles expr test known = record {
+  set_settles expr named known = record {
     same = same;
     as_long = ap length is_set ∙ length-set u.here.items i (Loop t);
     stay = record {
-      exprs = λ l lt. (values_stay expr test l).0;
-      tests = λ l lt. (values_stay expr test l).1;
+      exprs = λ l lt. (values_stay expr named l).0;
+      roles = λ l lt. (values_stay expr named l).1;
       turns = λ l ge lt. ap turns_in (other_fact l (λ e. absurd (omega (arith, e, ge))));
     };
     before = λ l lt. ap turns_in (other_fact l (λ e. absurd (omega (arith, e, lt))));
     settled = ap turns_in this_fact;
     known = record {
-      exprs = λ l. subst (IsBefore (l + 1)) (values_stay expr test l).0 (known.exprs l);
-      tests = λ l. subst (λ o. IsTestBelow o l) (values_stay expr test l).1 (known.tests l);
+      exprs = λ l. subst (IsBefore (l + 1)) (values_stay expr named l).0 (known.exprs l);
+      roles = λ l. subst (λ o. IsTestBelow o l) (values_stay expr named l).1 (known.roles l);
     };
   }

@@ -1,10 +1,10 @@
 -- Values with given expressions are defined one after another.
-use Rattle.std.proofs.Common.{◌≡◌, ℕ, ◌+◌, ◌<◌, List, [], ◌∷◌, length, map, slice_index_or, sym, ap, ◌∙◌, subst, arith, None}
+use Rattle.std.proofs.Common.{◌≡◌, ℕ, ◌+◌, ◌<◌, List, [], ◌∷◌, length, map, slice_index_or, sym, ap, ◌∙◌, subst, arith}
 use Rattle.std.specs.List.{remove}
 use Rattle.scev_tree.specs.declared.expr.Expr.{Expr}
 use Rattle.fresh_scev.specs.declared.table.Table.{Table}
 use Rattle.fresh_scev.specs.Expressions.{expression_of, IsBefore}
-use Rattle.fresh_scev.specs.Facts.{IsPlain}
+use Rattle.fresh_scev.specs.Facts.{IsPlain, untested}
 use Rattle.fresh_scev.specs.NextArguments.{AreBefore, AreGiven}
 use Rattle.fresh_scev.specs.Table.{facts_of, next_label, AreKnown, HasRoom, Grows, Defines}
 use Rattle.fresh_scev.specs.Walked.{Says}
@@ -34,11 +34,11 @@ module _ (xs rest : List Expr) (first : Expr) (some : 0 < length xs) (is : first
   pub rest_room : (s t : Table) → Grows s t 1 → HasRoom s (length xs) → HasRoom t (length rest)
   rest_room s t g r = room_later s t 1 (length rest) g (subst (λ n. HasRoom s n) count r)
 
-  pub first_given : (s t u : Table) → Defines s t (expression_of first) None → Says t u (length rest) (λ F. AreGiven F (next_label t) (map expression_of rest))
+  pub first_given : (s t u : Table) → Defines s t (expression_of first) untested → Says t u (length rest) (λ F. AreGiven F (next_label t) (map expression_of rest))
       → Says s u (length xs) (λ F. AreGiven F (next_label s) (map expression_of xs))
   first_given s t u d more =
       let next = next_later s t 1 d.grows in
-      let now : IsPlain (facts_of u) (next_label s) (expression_of first) = defined_stays s t u (length rest) (expression_of first) None d more.grows in
+      let now : IsPlain (facts_of u) (next_label s) (expression_of first) = defined_stays s t u (length rest) (expression_of first) untested d more.grows in
       let later : AreGiven (facts_of u) (next_label s + 1) (map expression_of rest) = subst (λ l. AreGiven (facts_of u) l (map expression_of rest)) next more.facts in
       let many : 1 + length rest ≡ length (first ∷ rest) = omega arith in
       let all : Says s u (length (first ∷ rest)) (λ F. AreGiven F (next_label s) (map expression_of (first ∷ rest))) =

@@ -1,9 +1,7 @@
 -- Tables that grow one after another.
-use Rattle.std.proofs.Common.{◌≡◌, ℕ, zero, ◌+◌, ◌<◌, ◌≤◌, List, length, refl, sym, ◌∙◌, arith}
-use Rattle.arith_word.specs.Labels.{label_at}
+use Rattle.std.proofs.Common.{◌≡◌, ℕ, ◌+◌, ◌≤◌, refl, ◌∙◌, arith}
 use Rattle.fresh_scev.specs.declared.table.Table.{Table}
-use Rattle.fresh_scev.specs.Facts.{Facts, AreAlike}
-use Rattle.fresh_scev.specs.SameFacts.{SameFacts}
+use Rattle.fresh_scev.specs.Facts.{AreAlike}
 use Rattle.fresh_scev.specs.Table.{facts_of, next_label, HasRoom, AreKnown, IsSameTable, Grows}
 
 -- the label of the next fact moves on
@@ -27,7 +25,7 @@ grows_on s t u m n a b =
       longer = omega (arith, la, lb);
       stay = record {
         exprs = λ l lt. a.stay.exprs l lt ∙ b.stay.exprs l (omega (arith, lt, next));
-        tests = λ l lt. a.stay.tests l lt ∙ b.stay.tests l (omega (arith, lt, next));
+        roles = λ l lt. a.stay.roles l lt ∙ b.stay.roles l (omega (arith, lt, next));
         turns = λ l ge lt. a.stay.turns l ge lt ∙ b.stay.turns l ge (omega (arith, lt, next));
       };
       known = b.known;
@@ -37,7 +35,7 @@ pub grows_none : (t : Table) → AreKnown (facts_of t) → Grows t t 0
 grows_none t known = record {
   same = record { func = refl; items = refl; conditions = refl };
   longer = omega arith;
-  stay = record { exprs = λ l lt. refl; tests = λ l lt. refl; turns = λ l ge lt. refl };
+  stay = record { exprs = λ l lt. refl; roles = λ l lt. refl; turns = λ l ge lt. refl };
   known = known;
 }
 
@@ -55,4 +53,4 @@ room_less s m n le r = let indices = r.indices in record { item = r.item; indice
 
 -- the facts of the values before stay alike
 pub grown_alike : (s t : Table) (n : ℕ) → Grows s t n → AreAlike (facts_of s) (facts_of t) (next_label s)
-grown_alike s t n g = record { exprs = λ l lt. g.stay.exprs l lt; tests = λ l lt. g.stay.tests l lt }
+grown_alike s t n g = record { exprs = λ l lt. g.stay.exprs l lt; roles = λ l lt. g.stay.roles l lt }

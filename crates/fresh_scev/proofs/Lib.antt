@@ -27,5 +27,13 @@ pub mod OpenedLoops
 pub mod LoopRounds
 pub mod WalkedItems
 pub mod ResultWidths
+pub mod EachValue
 pub mod TypedWidths
-pub mod ValueWidths
+pub mod EntriesOfFacts
+pub mod RolesOfValues
+pub mod OneTree
+pub mod OneRule
+pub mod OneTurns
+pub mod SameValues
+pub mod OneResult
+pub mod OneFunction

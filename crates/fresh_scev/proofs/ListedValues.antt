@@ -1,12 +1,12 @@
 -- Values of a list are defined one after another, each by the facts of values before.
-use Rattle.std.proofs.Common.{◌≡◌, ℕ, ◌+◌, ◌<◌, ◌≤◌, Bool, IsTrue, ◌↔◌, List, ◌∷◌, length, sym, ◌∙◌, subst, arith, None}
+use Rattle.std.proofs.Common.{◌≡◌, ℕ, ◌+◌, ◌<◌, ◌≤◌, Bool, IsTrue, ◌↔◌, List, ◌∷◌, length, sym, ◌∙◌, subst, arith}
 use Rattle.arith_word.specs.declared.label.Label.{Label}
 use Rattle.mlir_ir.specs.Words.{bits_of}
 use Rattle.mlir_ir.specs.declared.types.IrType.{IrType}
 use Rattle.trip_count.specs.declared.answer.Turns.{Turns}
 use Rattle.fresh_scev.specs.declared.table.Table.{Table}
 use Rattle.fresh_scev.specs.Expressions.{Expression, own, IsBefore}
-use Rattle.fresh_scev.specs.Facts.{Facts, AreAlike, AreOwn, AreMerged, ArePassed, AreCarried, ArePassedOn, IsProved}
+use Rattle.fresh_scev.specs.Facts.{Facts, untested, AreAlike, AreOwn, AreMerged, ArePassed, AreCarried, ArePassedOn, IsProved}
 use Rattle.fresh_scev.specs.LoopResults.{IsCarried}
 use Rattle.fresh_scev.specs.Loops.{IsResult}
 use Rattle.fresh_scev.specs.Rules.{have_width, fitting, IsMerged}
@@ -39,15 +39,15 @@ later_conditions s t n g u = later_below t.conditions.items s t n g (subst (λ u
 pub none_said : (t : Table) (What : Facts → Type 0) → AreKnown (facts_of t) → What (facts_of t) → Says t t 0 What
 none_said t What k h = record { grows = grows_none t k; facts = h }
 
-said_first : (s t u : Table) (e : Expression) (n m : ℕ) (What More : Facts → Type 0) → n ≡ 1 + m → Defines s t e None → Says t u m More
-    → (Grows s u (1 + m) → (facts_of u).expr (next_label s) ≡ e → (facts_of u).test (next_label s) ≡ None → More (facts_of u) → What (facts_of u)) → Says s u n What
+said_first : (s t u : Table) (e : Expression) (n m : ℕ) (What More : Facts → Type 0) → n ≡ 1 + m → Defines s t e untested → Says t u m More
+    → (Grows s u (1 + m) → (facts_of u).expr (next_label s) ≡ e → (facts_of u).role (next_label s) ≡ untested → More (facts_of u) → What (facts_of u)) → Says s u n What
 said_first s t u e n m What More count d more go =
     let all = grows_on s t u 1 m d.grows more.grows in
-    let is = defined_stays s t u m e None d more.grows in
+    let is = defined_stays s t u m e untested d more.grows in
     record { grows = subst (λ k. Grows s u k) (sym count) all; facts = go all is.0 is.1 more.facts }
 
 pub first_own : (s t u : Table) (e : Expression) (w n : ℕ) (ty : IrType) (rest : List IrType) → w ≡ bits_of ty → n ≡ 1 + length rest
-    → e ≡ own w (next_label s) → Defines s t e None → Says t u (length rest) (λ F. AreOwn F (next_label t) rest) → Says s u n (λ F. AreOwn F (next_label s) (ty ∷ rest))
+    → e ≡ own w (next_label s) → Defines s t e untested → Says t u (length rest) (λ F. AreOwn F (next_label t) rest) → Says s u n (λ F. AreOwn F (next_label s) (ty ∷ rest))
 first_own s t u e w n ty rest width count rule d more =
     said_first s t u e n (length rest) (λ F. AreOwn F (next_label s) (ty ∷ rest)) (λ F. AreOwn F (next_label t) rest) count d more
     (λ all is test rest_are. own_first (facts_of u) (next_label s) (next_label t) w e ty rest width (next_later s t 1 d.grows) is test rule rest_are)
@@ -55,7 +55,7 @@ first_own s t u e w n ty rest width count rule d more =
 pub first_merged : (s t u : Table) (e : Expression) (start w n : ℕ) (ty : IrType) (rest : List IrType) (y z : Label) (firsts others : List Label) → w ≡ bits_of ty → n ≡ 1 + length rest
     → y.0 < next_label s → z.0 < next_label s
     → fitting (have_width w ((facts_of s).expr y.0) ((facts_of s).expr z.0)) w (next_label s) e (IsMerged start w (next_label s) ((facts_of s).expr y.0) ((facts_of s).expr z.0) e)
-    → Defines s t e None → Says t u (length rest) (λ F. AreMerged F start (next_label t) rest firsts others)
+    → Defines s t e untested → Says t u (length rest) (λ F. AreMerged F start (next_label t) rest firsts others)
     → Says s u n (λ F. AreMerged F start (next_label s) (ty ∷ rest) (y ∷ firsts) (z ∷ others))
 first_merged s t u e start w n ty rest y z firsts others width count ly lz rule d more =
     let G = facts_of u in
@@ -73,7 +73,7 @@ pub passed_before : (y label : ℕ) (e : Expression) → y < label → IsBefore 
 passed_before y label e lt h = before_more (y + 1) (label + 1) e (omega (arith, lt)) h
 
 pub first_passed : (s t u : Table) (e : Expression) (n : ℕ) (ty : IrType) (rest : List IrType) (y : Label) (passed : List Label) → n ≡ 1 + length rest
-    → y.0 < next_label s → e ≡ (facts_of s).expr y.0 → Defines s t e None → Says t u (length rest) (λ F. ArePassed F (next_label t) rest passed)
+    → y.0 < next_label s → e ≡ (facts_of s).expr y.0 → Defines s t e untested → Says t u (length rest) (λ F. ArePassed F (next_label t) rest passed)
     → Says s u n (λ F. ArePassed F (next_label s) (ty ∷ rest) (y ∷ passed))
 first_passed s t u e n ty rest y passed count ly rule d more =
     said_first s t u e n (length rest) (λ F. ArePassed F (next_label s) (ty ∷ rest) (y ∷ passed)) (λ F. ArePassed F (next_label t) rest passed) count d more
@@ -107,12 +107,12 @@ result_later : (s u : Table) (n loop w v from : ℕ) (e x : Expression) → Grow
 result_later s u n loop w v from e x g known ll lf below width is h =
     subst (λ y. IsCarried (facts_of u) s.conditions.items loop v (next_label s) from y) (sym is)
     (subst (λ b. IsCarried (facts_of u) s.conditions.items loop b (next_label s) from e) width
-    (carried_stays (facts_of s) (facts_of u) (next_label s) s.conditions.items loop w (next_label s) from e (grown_alike s u n g) (λ l lt. known.tests l) below
+    (carried_stays (facts_of s) (facts_of u) (next_label s) s.conditions.items loop w (next_label s) from e (grown_alike s u n g) (λ l lt. known.roles l) below
     (g.stay.turns loop (omega arith) ll) lf h))
 
 pub first_carried : (s t u : Table) (e : Expression) (w n label loop from : ℕ) (ty : IrType) (rest : List IrType) → w ≡ bits_of ty → n ≡ 1 + length rest → label ≡ next_label s → AreKnown (facts_of s)
     → loop < next_label s → from + n ≤ next_label s → AreBelow s.conditions.items (next_label s) → IsCarried (facts_of s) s.conditions.items loop w label from e
-    → Defines s t e None → Says t u (length rest) (λ F. AreCarried F t.conditions.items loop (from + 1) (next_label t) rest)
+    → Defines s t e untested → Says t u (length rest) (λ F. AreCarried F t.conditions.items loop (from + 1) (next_label t) rest)
     → Says s u n (λ F. AreCarried F s.conditions.items loop from (next_label s) (ty ∷ rest))
 first_carried s t u e w n label loop from ty rest width count at known ll lf below rule d more =
     said_first s t u e n (length rest) (λ F. AreCarried F s.conditions.items loop from (next_label s) (ty ∷ rest)) (λ F. AreCarried F t.conditions.items loop (from + 1) (next_label t) rest) count d more
@@ -125,7 +125,7 @@ first_carried s t u e w n label loop from ty rest width count at known ll lf bel
 
 pub first_passed_on : (s t u : Table) (e : Expression) (w n label loop : ℕ) (ty : IrType) (rest : List IrType) (y : Label) (passed : List Label) → w ≡ bits_of ty → n ≡ 1 + length rest
     → label ≡ next_label s → AreKnown (facts_of s) → loop < next_label s → y.0 < next_label s → AreBelow s.conditions.items (next_label s)
-    → IsCarried (facts_of s) s.conditions.items loop w label y.0 e → Defines s t e None
+    → IsCarried (facts_of s) s.conditions.items loop w label y.0 e → Defines s t e untested
     → Says t u (length rest) (λ F. ArePassedOn F t.conditions.items loop passed (next_label t) rest)
     → Says s u n (λ F. ArePassedOn F s.conditions.items loop (y ∷ passed) (next_label s) (ty ∷ rest))
 first_passed_on s t u e w n label loop ty rest y passed width count at known ll ly below rule d more =

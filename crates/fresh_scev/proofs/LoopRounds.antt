@@ -1,5 +1,5 @@
 -- Rounds of a loop: its variable with its arguments, a further round behind a table that is cut back, and the end.
-use Rattle.std.proofs.Common.{◌≡◌, ℕ, ◌+◌, ◌<◌, List, length, take, sym, ap, ◌∙◌, subst, arith, None}
+use Rattle.std.proofs.Common.{◌≡◌, ℕ, ◌+◌, ◌<◌, List, length, take, sym, ap, ◌∙◌, subst, arith}
 use Rattle.arith_word.specs.declared.label.Label.{Label}
 use Rattle.arith_word.specs.declared.op.Pred.TheVariants.{Slt}
 use Rattle.mlir_ir.specs.declared.types.IrType.{IrType}
@@ -11,7 +11,7 @@ use Rattle.fresh_scev.specs.declared.heads.ForHead.{ForHead}
 use Rattle.fresh_scev.specs.declared.heads.WhileHead.{WhileHead}
 use Rattle.fresh_scev.specs.declared.table.Table.{Table}
 use Rattle.fresh_scev.specs.Expressions.{Expression, number_in}
-use Rattle.fresh_scev.specs.Facts.{AreNext, IsTested, AreCarried, ArePassedOn}
+use Rattle.fresh_scev.specs.Facts.{untested, AreNext, IsTested, AreCarried, ArePassedOn}
 use Rattle.fresh_scev.specs.Heads.{AreArguments, Begins, HasBegun, HasVariable, EndsFor, EndsWhile, first_of_for, first_of_while}
 use Rattle.fresh_scev.specs.Loops.{IsVariable, AreComparedTurns}
 use Rattle.fresh_scev.specs.NextArguments.{AreGiven, AreNextExprs}
@@ -21,7 +21,7 @@ use Rattle.fresh_scev.specs.Walked.{Says}
 use Rattle.fresh_scev.proofs.CutTables.{cut_grows}
 use Rattle.fresh_scev.proofs.GrowingTables.{next_later, grows_on, grown_alike}
 use Rattle.fresh_scev.proofs.NextArguments.{next_given}
-use Rattle.fresh_scev.proofs.StandingFacts.{alike_less, types_length, variable_stays, test_stays}
+use Rattle.fresh_scev.proofs.StandingFacts.{alike_less, types_length, variable_stays, role_stays}
 
 -- ---- the variable of an `scf.for`, and then its arguments
 
@@ -30,7 +30,7 @@ module _ (h : ForHead) (s t : Table) (place : next_label s ≡ h.counter.0 + 1) 
   first_behind g = let next = next_later s t 1 g in omega (arith, next, place)
 
   pub variable_said_with : (u : Table) (types : List IrType) (args : Arguments) → h.lower.0 < h.counter.0 → h.step.0 < h.counter.0
-      → Says s t 1 (λ F. IsVariable h.counter.0 (bits_of h.iv.now.ty) (next_label s) (F.expr h.lower.0) (F.expr h.step.0) (F.expr (next_label s)) × (F.test (next_label s) ≡ None))
+      → Says s t 1 (λ F. IsVariable h.counter.0 (bits_of h.iv.now.ty) (next_label s) (F.expr h.lower.0) (F.expr h.step.0) (F.expr (next_label s)) × (F.role (next_label s) ≡ untested))
       → Says t u (length types) (λ F. AreArguments F (next_label t) types args)
       → Says s u (1 + length types) (HasVariable h (λ F. AreArguments F (first_of_for h) types args))
   variable_said_with u types args lower step a b =
@@ -42,12 +42,12 @@ module _ (h : ForHead) (s t : Table) (place : next_label s ≡ h.counter.0 + 1) 
       let alike = alike_less F G (next_label t) (at + 2) (omega (arith, e)) (grown_alike t u (length types) b.grows) in
       let is : IsVariable at w (at + 1) (F.expr h.lower.0) (F.expr h.step.0) (F.expr (at + 1)) =
       subst (λ l. IsVariable at w l (F.expr h.lower.0) (F.expr h.step.0) (F.expr l)) place a.facts.0 in
-      let plain : F.test (at + 1) ≡ None = subst (λ l. F.test l ≡ None) place a.facts.1 in
+      let plain : F.role (at + 1) ≡ untested = subst (λ l. F.role l ≡ untested) place a.facts.1 in
       record {
         grows = grows_on s t u 1 (length types) a.grows b.grows;
         facts = (
           variable_stays F G (at + 2) alike at w (at + 1) h.lower.0 h.step.0 (omega (arith, lower)) (omega (arith, step)) (omega arith) is,
-          test_stays F G (at + 2) alike (at + 1) None (omega arith) plain,
+          role_stays F G (at + 2) alike (at + 1) untested (omega arith) plain,
           subst (λ l. AreArguments G l types args) e b.facts,
         );
       }
@@ -134,7 +134,7 @@ for_ends h results u v w label turns at a counted b = record {
 }
 
 pub while_ends : (h : WhileHead) (passed : List Label) (results : List IrType) (u v w : Table) (label : ℕ) (turns : Turns) → h.counter.0 ≡ label → Settles u v label turns
-    → IsTested (facts_of u) h.counter.0 (number_in ((facts_of u).expr h.cond.0).p) ((facts_of u).test h.cond.0) turns
+    → IsTested (facts_of u) h.counter.0 (number_in ((facts_of u).expr h.cond.0).p) ((facts_of u).role h.cond.0) turns
     → Says v w (length results) (λ F. ArePassedOn F v.conditions.items h.counter.0 passed (next_label v) results)
     → EndsWhile u.conditions.items h passed results u w
 while_ends h passed results u v w label turns at a counted b = record {

@@ -1,5 +1,5 @@
 -- The rules of single operations give expressions of their results' widths.
-use Rattle.std.proofs.Common.{◌≡◌, ℕ, zero, suc, ◌+◌, ◌==◌, inl, inr, Bool, true, false, List, [], ◌∷◌, Option, Some, None, refl, ap, ◌∙◌, if◌then◌else◌}
+use Rattle.std.proofs.Common.{◌≡◌, ℕ, zero, suc, ◌+◌, ◌==◌, inl, inr, Bool, true, false, List, [], ◌∷◌, Option, Some, None, refl, sym, subst, ap, ◌∙◌, if◌then◌else◌}
 use Rattle.std.proofs.lemmas.Bool.{and_parts, cases_Bool, eqb-true, eq-eqb}
 use Rattle.arith_word.specs.declared.label.Label.{Label}
 use Rattle.arith_word.specs.declared.op.BinOp.{BinOp}
@@ -11,10 +11,10 @@ use Rattle.mlir_ir.specs.Words.{bits_of}
 use Rattle.scev_tree.specs.Polynomial.{Polynomial}
 use Rattle.trip_count.specs.declared.answer.Turns.{Turns}
 use Rattle.fresh_scev.specs.Expressions.{Expression, own, number_in}
-use Rattle.fresh_scev.specs.Facts.{Facts, Loop, AreOwn, IsRuled, AreRuled, AreMerged, AreNext, Rounds, AreCarried, ArePassedOn}
+use Rattle.fresh_scev.specs.Facts.{Facts, Role, untested, role_of, Loop, AreOwn, IsRuled, AreRuled, AreMerged, AreNext, Rounds, AreCarried, ArePassedOn}
 use Rattle.fresh_scev.specs.Loops.{IsNext, IsResult, solved, stays, settled, unsettled}
 use Rattle.fresh_scev.specs.Rules.{have_width, fitting, or_own, IsCutOf, shift_factor, IsShifted, IsBin, truncates, IsTruncatedCast, IsSelectedBy, IsMerged}
-use Rattle.fresh_scev.specs.Widths.{AreWide}
+use Rattle.fresh_scev.specs.Widths.{IsValue, AreWide}
 use Rattle.fresh_scev.proofs.TableFacts.{no_both}
 
 own_wide : (w label : ℕ) (e : Expression) → e ≡ own w label → e.w ≡ w
@@ -89,15 +89,31 @@ rule_wide F w label (Select c a b) e h =
     fitting_wide (have_width w (F.expr a.0) (F.expr b.0)) w label e _ (λ t r. let p = both_wide w (F.expr a.0) (F.expr b.0) t in selected_wide (number_in (F.expr c.0).p) w label (F.expr a.0) (F.expr b.0) e p.0 p.1 r) h
 rule_wide F w label (Call func passed) e h = own_wide w label e h
 
+-- ---- roles of values
+
+pub untested_value : (r : Role) → r ≡ untested → IsValue r
+untested_value r e = subst IsValue (sym e) tt
+
+value_role : (does : SimpleOp) → IsValue (role_of does)
+value_role (Const v) = tt
+value_role (Bin op flags a b) = tt
+value_role (Cast op flags a) = tt
+value_role (Cmp pred a b) = tt
+value_role (Select c a b) = tt
+value_role (Call func passed) = tt
+
+ruled_value : (r : Role) (does : SimpleOp) → r ≡ role_of does → IsValue r
+ruled_value r does e = subst IsValue (sym e) (value_role does)
+
 -- ---- values one after another
 
 pub own_are_wide : (F : Facts) (label : ℕ) (tys : List IrType) → AreOwn F label tys → AreWide F label tys
 own_are_wide F label [] h = tt
-own_are_wide F label (ty ∷ tys) h = (own_wide (bits_of ty) label (F.expr label) h.0.0, own_are_wide F (label + 1) tys h.1)
+own_are_wide F label (ty ∷ tys) h = ((own_wide (bits_of ty) label (F.expr label) h.0.0, untested_value (F.role label) h.0.1), own_are_wide F (label + 1) tys h.1)
 
 pub ruled_are_wide : (F : Facts) (label : ℕ) (tys : List IrType) (does : SimpleOp) → AreRuled F label tys does → AreWide F label tys
 ruled_are_wide F label [] does h = tt
-ruled_are_wide F label (ty ∷ tys) does h = (rule_wide F (bits_of ty) label does (F.expr label) h.0, ruled_are_wide F (label + 1) tys does h.2)
+ruled_are_wide F label (ty ∷ tys) does h = ((rule_wide F (bits_of ty) label does (F.expr label) h.0, ruled_value (F.role label) does h.1), ruled_are_wide F (label + 1) tys does h.2)
 
 merged_wide : (start w label : ℕ) (a b e : Expression) → have_width w a b ≡ true → IsMerged start w label a b e → e.w ≡ w
 merged_wide start w label a b e t h =
@@ -110,7 +126,7 @@ merged_are_wide F start label (ty ∷ tys) [] others h = own_are_wide F label (t
 merged_are_wide F start label (ty ∷ tys) (y ∷ firsts) [] h = own_are_wide F label (ty ∷ tys) h
 merged_are_wide F start label (ty ∷ tys) (y ∷ firsts) (z ∷ others) h =
     let w = bits_of ty in (
-      fitting_wide (have_width w (F.expr y.0) (F.expr z.0)) w label (F.expr label) _ (λ t r. merged_wide start w label (F.expr y.0) (F.expr z.0) (F.expr label) t r) h.0,
+      (fitting_wide (have_width w (F.expr y.0) (F.expr z.0)) w label (F.expr label) _ (λ t r. merged_wide start w label (F.expr y.0) (F.expr z.0) (F.expr label) t r) h.0, untested_value (F.role label) h.1),
       merged_are_wide F start (label + 1) tys firsts others h.2,
     )
 
@@ -123,7 +139,7 @@ next_are_wide loop old new label [] inits ends wide h = tt
 next_are_wide loop old new label (ty ∷ tys) [] ends wide h = own_are_wide new label (ty ∷ tys) h
 next_are_wide loop old new label (ty ∷ tys) (i ∷ inits) [] wide h = own_are_wide new label (ty ∷ tys) h
 next_are_wide loop old new label (ty ∷ tys) (i ∷ inits) (y ∷ ends) wide h = (
-  next_wide loop (bits_of ty) label (old.expr label) (old.expr i.0) (old.expr y.0) (new.expr label) wide.0 h.0,
+  (next_wide loop (bits_of ty) label (old.expr label) (old.expr i.0) (old.expr y.0) (new.expr label) wide.0.0 h.0, untested_value (new.role label) h.1),
   next_are_wide loop old new (label + 1) tys inits ends wide.1 h.2,
 )
 
@@ -143,7 +159,7 @@ result_wide proved w loop label t a e (unsettled none same) = own_wide w label e
 pub carried_are_wide : (F : Facts) (conditions : List Label) (loop from label : ℕ) (tys : List IrType) → AreCarried F conditions loop from label tys → AreWide F label tys
 carried_are_wide F conditions loop from label [] h = tt
 carried_are_wide F conditions loop from label (ty ∷ tys) h = (
-  result_wide _ (bits_of ty) loop label (F.turns loop) (F.expr from) (F.expr label) h.0,
+  (result_wide _ (bits_of ty) loop label (F.turns loop) (F.expr from) (F.expr label) h.0, untested_value (F.role label) h.1),
   carried_are_wide F conditions loop (from + 1) (label + 1) tys h.2,
 )
 
@@ -151,6 +167,6 @@ pub passed_on_are_wide : (F : Facts) (conditions : List Label) (loop : ℕ) (pas
 passed_on_are_wide F conditions loop passed label [] h = tt
 passed_on_are_wide F conditions loop [] label (ty ∷ tys) h = own_are_wide F label (ty ∷ tys) h
 passed_on_are_wide F conditions loop (y ∷ passed) label (ty ∷ tys) h = (
-  result_wide _ (bits_of ty) loop label (F.turns loop) (F.expr y.0) (F.expr label) h.0,
+  (result_wide _ (bits_of ty) loop label (F.turns loop) (F.expr y.0) (F.expr label) h.0, untested_value (F.role label) h.1),
   passed_on_are_wide F conditions loop passed (label + 1) tys h.2,
 )

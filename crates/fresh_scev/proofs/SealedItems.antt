@@ -13,10 +13,10 @@ use Rattle.mlir_ir.specs.View.{view_ops, view_items}
 use Rattle.fresh_scev.specs.declared.fact.Fact.{Fact}
 use Rattle.fresh_scev.specs.declared.table.Table.{Table}
 use Rattle.fresh_scev.specs.Expressions.{IsBefore}
-use Rattle.fresh_scev.specs.Facts.{AreOwn, IsOps, IsItems, IsFacts, items_in}
+use Rattle.fresh_scev.specs.Facts.{Facts, AreOwn, IsOps, IsItems, IsFacts, items_in}
 use Rattle.fresh_scev.specs.SameFacts.{SameFacts, IsTestBelow}
 use Rattle.fresh_scev.specs.Sealed.{Seals, HasItems}
-use Rattle.fresh_scev.specs.Table.{fact_at, expr_in, test_in, turns_in, facts_in, facts_of, next_label, AreKnown}
+use Rattle.fresh_scev.specs.Table.{fact_at, expr_in, role_in, turns_in, facts_in, facts_of, next_label, AreKnown}
 use Rattle.fresh_scev.specs.UsesBelow.{DoUseBelow, DoItemsUseBelow}
 use Rattle.fresh_scev.specs.Walked.{Says}
 use Rattle.fresh_scev.proofs.Pushed.{items_grow}
@@ -37,12 +37,12 @@ module _ (s t : Table) (seals : Seals s t) where
       (ap (λ row. if func_of l == s.func then slice_get row (index_of l) else None) (row_empty (s.items ++ s.here.items ∷ []) (item_of l)))
 
   pub sealed_same : (from to : ℕ) → SameFacts (facts_of s) (facts_of t) from to
-  sealed_same from to = record { exprs = λ l lt. ap expr_in (sealed_fact l); tests = λ l lt. ap test_in (sealed_fact l); turns = λ l ge lt. ap turns_in (sealed_fact l) }
+  sealed_same from to = record { exprs = λ l lt. ap expr_in (sealed_fact l); roles = λ l lt. ap role_in (sealed_fact l); turns = λ l ge lt. ap turns_in (sealed_fact l) }
 
   pub sealed_known : AreKnown (facts_of s) → AreKnown (facts_of t)
   sealed_known known = record {
     exprs = λ l. subst (λ f. IsBefore (l + 1) (expr_in f)) (sealed_fact l) (known.exprs l);
-    tests = λ l. subst (λ f. IsTestBelow (test_in f) l) (sealed_fact l) (known.tests l);
+    roles = λ l. subst (λ f. IsTestBelow (role_in f) l) (sealed_fact l) (known.roles l);
   }
 
   pub sealed_many : length t.items ≡ length s.items + 1
@@ -87,7 +87,7 @@ sealed_item t u v args xs item few sized uses own_uses has says seals =
     let seal = sealed_same u v seals 0 to in
     let same : SameFacts F G 0 to = record {
       exprs = λ l lt. stay.exprs l (omega (arith, lt, begin)) ∙ seal.exprs l lt;
-      tests = λ l lt. stay.tests l (omega (arith, lt, begin)) ∙ seal.tests l lt;
+      roles = λ l lt. stay.roles l (omega (arith, lt, begin)) ∙ seal.roles l lt;
       turns = λ l ge lt. stay.turns l ge (omega (arith, lt, begin)) ∙ seal.turns l ge lt;
     } in
     let n = labels_of (view_ops item.ops) in
@@ -118,8 +118,8 @@ all_items f t items func same has = record {
 }
 
 -- an item under way without facts says nothing
-pub facts_finished : (t : Table) → t.here.items ≡ [] → (f : Func) → IsFacts f (facts_of t) → IsFacts f (facts_in t.func t.items)
-facts_finished t empty f h =
+pub facts_finished : (t : Table) → t.here.items ≡ [] → (What : Facts → Type 0) → What (facts_of t) → What (facts_in t.func t.items)
+facts_finished t empty What h =
     let same : (l : ℕ) → fact_at t.func (t.items ++ t.here.items ∷ []) l ≡ fact_at t.func t.items l =
     λ l. rw empty (sym (ap (λ row. if func_of l == t.func then slice_get row (index_of l) else None) (row_empty t.items (item_of l)))) in
-    subst (λ at. IsFacts f (record { expr = λ l. expr_in (at l); test = λ l. test_in (at l); turns = λ l. turns_in (at l) })) (fun_ext same) h
+    subst (λ at. What (record { expr = λ l. expr_in (at l); role = λ l. role_in (at l); turns = λ l. turns_in (at l) })) (fun_ext same) h

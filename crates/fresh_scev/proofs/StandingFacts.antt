@@ -17,7 +17,7 @@ use Rattle.trip_count.specs.declared.answer.Turns.TheVariants.{Count, Never, Exa
 use Rattle.fresh_scev.specs.Expressions.{Expression, own, number_in}
 use Rattle.fresh_scev.specs.Rules.{have_width, fitting, IsBin, IsCast, IsComparison, IsSelected, IsMerged}
 use Rattle.fresh_scev.specs.Loops.{IsVariable, IsNext, AreComparedTurns, IsAtEnd, IsExitValue, IsGuard, IsResult, settled, unsettled}
-use Rattle.fresh_scev.specs.Facts.{Comparison, Facts, IsPlain, AreOwn, IsRuled, test_of, AreRuled, AreMerged, IsGuardOf, IsProved, Loop, AreNext, AreAlike, Rounds, round_limit, ArePassed, IsTested, AreCarried, ArePassedOn, IsOps, IsKind}
+use Rattle.fresh_scev.specs.Facts.{Facts, Role, unnamed, counts, untested, tested, IsPlain, AreOwn, IsRuled, role_of, AreRuled, AreMerged, IsGuardOf, IsProved, Loop, AreNext, AreAlike, Rounds, round_limit, ArePassed, IsTested, AreCarried, ArePassedOn, IsOps, IsKind}
 use Rattle.fresh_scev.specs.SameFacts.{SameFacts, IsTestBelow, AreTestsBelow}
 use Rattle.fresh_scev.specs.UsesBelow.{AreBelow, DoUseBelow, DoesUseBelow}
 
@@ -26,30 +26,30 @@ use Rattle.fresh_scev.specs.UsesBelow.{AreBelow, DoUseBelow, DoesUseBelow}
 pub same_less : (F G : Facts) (from to from2 to2 : ℕ) → from ≤ from2 → to2 ≤ to → SameFacts F G from to → SameFacts F G from2 to2
 same_less F G from to from2 to2 lf lt s = record {
   exprs = λ l h. s.exprs l (omega (arith, h, lt));
-  tests = λ l h. s.tests l (omega (arith, h, lt));
+  roles = λ l h. s.roles l (omega (arith, h, lt));
   turns = λ l g h. s.turns l (omega (arith, g, lf)) (omega (arith, h, lt));
 }
 
 pub same_turned : (F G : Facts) (from to : ℕ) → SameFacts F G from to → SameFacts G F from to
-same_turned F G from to s = record { exprs = λ l h. sym (s.exprs l h); tests = λ l h. sym (s.tests l h); turns = λ l g h. sym (s.turns l g h) }
+same_turned F G from to s = record { exprs = λ l h. sym (s.exprs l h); roles = λ l h. sym (s.roles l h); turns = λ l g h. sym (s.turns l g h) }
 
 pub same_alike : (F G : Facts) (from to at : ℕ) → at ≤ to → SameFacts F G from to → AreAlike F G at
-same_alike F G from to at le s = record { exprs = λ l h. s.exprs l (omega (arith, h, le)); tests = λ l h. s.tests l (omega (arith, h, le)) }
+same_alike F G from to at le s = record { exprs = λ l h. s.exprs l (omega (arith, h, le)); roles = λ l h. s.roles l (omega (arith, h, le)) }
 
 pub alike_less : (F G : Facts) (n m : ℕ) → m ≤ n → AreAlike F G n → AreAlike F G m
-alike_less F G n m le s = record { exprs = λ l h. s.exprs l (omega (arith, h, le)); tests = λ l h. s.tests l (omega (arith, h, le)) }
+alike_less F G n m le s = record { exprs = λ l h. s.exprs l (omega (arith, h, le)); roles = λ l h. s.roles l (omega (arith, h, le)) }
 
 pub alike_turned : (F G : Facts) (n : ℕ) → AreAlike F G n → AreAlike G F n
-alike_turned F G n s = record { exprs = λ l h. sym (s.exprs l h); tests = λ l h. sym (s.tests l h) }
+alike_turned F G n s = record { exprs = λ l h. sym (s.exprs l h); roles = λ l h. sym (s.roles l h) }
 
 pub alike_chained : (F G H : Facts) (n : ℕ) → AreAlike F G n → AreAlike G H n → AreAlike F H n
-alike_chained F G H n s t = record { exprs = λ l h. s.exprs l h ∙ t.exprs l h; tests = λ l h. s.tests l h ∙ t.tests l h }
+alike_chained F G H n s t = record { exprs = λ l h. s.exprs l h ∙ t.exprs l h; roles = λ l h. s.roles l h ∙ t.roles l h }
 
 pub tests_less : (F : Facts) (to to2 : ℕ) → to2 ≤ to → AreTestsBelow F to → AreTestsBelow F to2
 tests_less F to to2 le h = λ l lt. h l (omega (arith, lt, le))
 
 pub tests_same : (F G : Facts) (n : ℕ) → AreAlike F G n → AreTestsBelow F n → AreTestsBelow G n
-tests_same F G n s h = λ l lt. subst (λ o. IsTestBelow o l) (s.tests l lt) (h l lt)
+tests_same F G n s h = λ l lt. subst (λ o. IsTestBelow o l) (s.roles l lt) (h l lt)
 
 -- ---- uses
 
@@ -77,11 +77,11 @@ module _ (F G : Facts) (n : ℕ) (a : AreAlike F G n) where
   pub move3 : (l m k : ℕ) (P : Expression → Expression → Expression → Type 0) → l < n → m < n → k < n → P (F.expr l) (F.expr m) (F.expr k) → P (G.expr l) (G.expr m) (G.expr k)
   move3 l m k P ll lm lk p = move2 m k (P (G.expr l)) lm lk (move l (λ x. P x (F.expr m) (F.expr k)) ll p)
 
-  pub test_stays : (l : ℕ) (o : Option Comparison) → l < n → F.test l ≡ o → G.test l ≡ o
-  test_stays l o lt e = sym (a.tests l lt) ∙ e
+  pub role_stays : (l : ℕ) (o : Role) → l < n → F.role l ≡ o → G.role l ≡ o
+  role_stays l o lt e = sym (a.roles l lt) ∙ e
 
   pub plain_stays : (l : ℕ) (e : Expression) → l < n → IsPlain F l e → IsPlain G l e
-  plain_stays l e lt h = (move l (λ x. x ≡ e) lt h.0, test_stays l None lt h.1)
+  plain_stays l e lt h = (move l (λ x. x ≡ e) lt h.0, role_stays l untested lt h.1)
 
   pub own_stay : (l : ℕ) (tys : List IrType) → l + length tys ≤ n → AreOwn F l tys → AreOwn G l tys
   own_stay l [] le h = tt
@@ -99,7 +99,7 @@ module _ (F G : Facts) (n : ℕ) (a : AreAlike F G n) where
   ruled_stay label [] does u le h = tt
   ruled_stay label (ty ∷ tys) does u le h = (
     move label (λ e. IsRuled G (bits_of ty) label does e) (omega (arith, le)) (rule_stays (bits_of ty) label does (F.expr label) u h.0),
-    test_stays label (test_of does) (omega (arith, le)) h.1,
+    role_stays label (role_of does) (omega (arith, le)) h.1,
     ruled_stay (label + 1) tys does u (omega (arith, le)) h.2,
   )
 
@@ -110,7 +110,7 @@ module _ (F G : Facts) (n : ℕ) (a : AreAlike F G n) where
   merged_stay start label (ty ∷ tys) (y ∷ firsts) [] uf uo le h = own_stay label (ty ∷ tys) le h
   merged_stay start label (ty ∷ tys) (y ∷ firsts) (z ∷ others) uf uo le h = (
     move3 y.0 z.0 label (λ p q e. fitting (have_width (bits_of ty) p q) (bits_of ty) label e (IsMerged start (bits_of ty) label p q e)) uf.0 uo.0 (omega (arith, le)) h.0,
-    test_stays label None (omega (arith, le)) h.1,
+    role_stays label untested (omega (arith, le)) h.1,
     merged_stay start (label + 1) tys firsts others uf.1 uo.1 (omega (arith, le)) h.2,
   )
 
@@ -118,7 +118,7 @@ module _ (F G : Facts) (n : ℕ) (a : AreAlike F G n) where
   passed_stay label [] passed u le h = tt
   passed_stay label (ty ∷ tys) [] u le h = own_stay label (ty ∷ tys) le h
   passed_stay label (ty ∷ tys) (y ∷ passed) u le h = (
-    (move2 label y.0 (λ p q. p ≡ q) (omega (arith, le)) u.0 h.0.0, test_stays label None (omega (arith, le)) h.0.1),
+    (move2 label y.0 (λ p q. p ≡ q) (omega (arith, le)) u.0 h.0.0, role_stays label untested (omega (arith, le)) h.0.1),
     passed_stay (label + 1) tys passed u.1 (omega (arith, le)) h.1,
   )
 
@@ -131,7 +131,7 @@ module _ (F G : Facts) (n : ℕ) (a : AreAlike F G n) where
   next_stay loop old label (ty ∷ tys) (i ∷ inits) [] le h = own_stay label (ty ∷ tys) le h
   next_stay loop old label (ty ∷ tys) (i ∷ inits) (y ∷ ends) le h = (
     move label (λ e. IsNext loop (bits_of ty) label (old.expr label) (old.expr i.0) (old.expr y.0) e) (omega (arith, le)) h.0,
-    test_stays label None (omega (arith, le)) h.1,
+    role_stays label untested (omega (arith, le)) h.1,
     next_stay loop old (label + 1) tys inits ends (omega (arith, le)) h.2,
   )
 
@@ -152,36 +152,40 @@ module _ (F G : Facts) (n : ℕ) (a : AreAlike F G n) where
   pub compared_stays : (loop : ℕ) (pred : Pred) (x y : ℕ) (t : Turns) → x < n → y < n → AreComparedTurns loop pred (F.expr x) (F.expr y) t → AreComparedTurns loop pred (G.expr x) (G.expr y) t
   compared_stays loop pred x y t lx ly h = move2 x y (λ p q. AreComparedTurns loop pred p q t) lx ly h
 
-  test_holds : (loop c : ℕ) (v : Option ℕ) (o : Option Comparison) (t : Turns) → c ≤ n → IsTestBelow o c → IsTested F loop v o t → IsTested G loop v o t
+  test_holds : (loop c : ℕ) (v : Option ℕ) (o : Role) (t : Turns) → c ≤ n → IsTestBelow o c → IsTested F loop v o t → IsTested G loop v o t
   test_holds loop c (Some v) o t le b h = h
-  test_holds loop c None (Some test) t le b h =
+  test_holds loop c None (tested test) t le b h =
       let l = b.0 in
       let r = b.1 in
       compared_stays loop test.pred test.left test.right t (omega (arith, l, le)) (omega (arith, r, le)) h
-  test_holds loop c None None t le b h = h
+  test_holds loop c None unnamed t le b h = h
+  test_holds loop c None counts t le b h = h
+  test_holds loop c None untested t le b h = h
 
-  pub test_same_holds : (loop c : ℕ) (t : Turns) → AreTestsBelow F n → c < n → IsTested F loop (number_in (F.expr c).p) (F.test c) t → IsTested G loop (number_in (G.expr c).p) (G.test c) t
+  pub test_same_holds : (loop c : ℕ) (t : Turns) → AreTestsBelow F n → c < n → IsTested F loop (number_in (F.expr c).p) (F.role c) t → IsTested G loop (number_in (G.expr c).p) (G.role c) t
   test_same_holds loop c t tests lt h =
-      subst (λ o. IsTested G loop (number_in (G.expr c).p) o t) (a.tests c lt)
-      (move c (λ x. IsTested G loop (number_in x.p) (F.test c) t) lt (test_holds loop c (number_in (F.expr c).p) (F.test c) t (omega (arith, lt)) (tests c lt) h))
+      subst (λ o. IsTested G loop (number_in (G.expr c).p) o t) (a.roles c lt)
+      (move c (λ x. IsTested G loop (number_in x.p) (F.role c) t) lt (test_holds loop c (number_in (F.expr c).p) (F.role c) t (omega (arith, lt)) (tests c lt) h))
 
-  pub tested_stays : (loop c : ℕ) → AreTestsBelow F n → c < n → F.turns loop ≡ G.turns loop → IsTested F loop (number_in (F.expr c).p) (F.test c) (F.turns loop)
-      → IsTested G loop (number_in (G.expr c).p) (G.test c) (G.turns loop)
-  tested_stays loop c tests lt e h = subst (λ t. IsTested G loop (number_in (G.expr c).p) (G.test c) t) e (test_same_holds loop c (F.turns loop) tests lt h)
+  pub tested_stays : (loop c : ℕ) → AreTestsBelow F n → c < n → F.turns loop ≡ G.turns loop → IsTested F loop (number_in (F.expr c).p) (F.role c) (F.turns loop)
+      → IsTested G loop (number_in (G.expr c).p) (G.role c) (G.turns loop)
+  tested_stays loop c tests lt e h = subst (λ t. IsTested G loop (number_in (G.expr c).p) (G.role c) t) e (test_same_holds loop c (F.turns loop) tests lt h)
 
-  guard_stays : (c : ℕ) (t : Turns) (o : Option Comparison) → c ≤ n → IsTestBelow o c → IsGuardOf F t o → IsGuardOf G t o
-  guard_stays c t (Some test) le b h =
+  guard_stays : (c : ℕ) (t : Turns) (o : Role) → c ≤ n → IsTestBelow o c → IsGuardOf F t o → IsGuardOf G t o
+  guard_stays c t (tested test) le b h =
       let l = b.0 in
       let r = b.1 in
       move2 test.left test.right (λ p q. IsGuard t test.pred p q) (omega (arith, l, le)) (omega (arith, r, le)) h
-  guard_stays c t None le b h = absurd h
+  guard_stays c t unnamed le b h = absurd h
+  guard_stays c t counts le b h = absurd h
+  guard_stays c t untested le b h = absurd h
 
   pub proved_stays : (conditions : List Label) (t : Turns) → AreTestsBelow F n → AreBelow conditions n → IsProved F conditions t → IsProved G conditions t
   proved_stays [] t tests u h = absurd h
   proved_stays (c ∷ conditions) t tests u h =
       let lt = u.0 in
-      elim h as (λ _. IsGuardOf G t (G.test c.0) ⊎ IsProved G conditions t) [
-        | inl g ↦ inl (subst (λ o. IsGuardOf G t o) (a.tests c.0 lt) (guard_stays c.0 t (F.test c.0) (omega (arith, lt)) (tests c.0 lt) g))
+      elim h as (λ _. IsGuardOf G t (G.role c.0) ⊎ IsProved G conditions t) [
+        | inl g ↦ inl (subst (λ o. IsGuardOf G t o) (a.roles c.0 lt) (guard_stays c.0 t (F.role c.0) (omega (arith, lt)) (tests c.0 lt) g))
         | inr r ↦ inr (proved_stays conditions t tests u.1 r)
       ]
 
@@ -218,7 +222,7 @@ module _ (F G : Facts) (n : ℕ) (a : AreAlike F G n) (conditions : List Label) 
   carried_stay from label [] lf le h = tt
   carried_stay from label (ty ∷ tys) lf le h = (
     result_stays (bits_of ty) from label (omega (arith, lf)) (omega (arith, le)) h.0,
-    test_stays F G n a label None (omega (arith, le)) h.1,
+    role_stays F G n a label untested (omega (arith, le)) h.1,
     carried_stay (from + 1) (label + 1) tys (omega (arith, lf)) (omega (arith, le)) h.2,
   )
 
@@ -227,7 +231,7 @@ module _ (F G : Facts) (n : ℕ) (a : AreAlike F G n) (conditions : List Label) 
   passed_on_stay [] label (ty ∷ tys) u le h = own_stay F G n a label (ty ∷ tys) le h
   passed_on_stay (y ∷ passed) label (ty ∷ tys) u le h = (
     result_stays (bits_of ty) y.0 label u.0 (omega (arith, le)) h.0,
-    test_stays F G n a label None (omega (arith, le)) h.1,
+    role_stays F G n a label untested (omega (arith, le)) h.1,
     passed_on_stay passed (label + 1) tys u.1 (omega (arith, le)) h.2,
   )
 
@@ -273,16 +277,17 @@ mutual
       let lu = uses.0.1.0 in
       let ls = uses.0.1.1.0 in
       let e : F.turns at ≡ G.turns at = same.turns at (omega arith) (omega arith) in (
-        rounds_stay F G to a loop (λ H. IsVariable at (bits_of iv.ty) (at + 1) (H.expr lower.0) (H.expr step.0) (H.expr (at + 1)) × (H.test (at + 1) ≡ None) × IsOps conditions body in_body H)
+        rounds_stay F G to a loop (λ H. IsVariable at (bits_of iv.ty) (at + 1) (H.expr lower.0) (H.expr step.0) (H.expr (at + 1)) × (H.role (at + 1) ≡ untested) × IsOps conditions body in_body H)
             round_limit (omega arith) (omega (arith, many))
             (λ i. (
               variable_stays F G to a at (bits_of iv.ty) (at + 1) lower.0 step.0 (omega (arith, ll)) (omega (arith, ls)) (omega arith) i.0,
-              test_stays F G to a (at + 1) None (omega arith) i.1,
+              role_stays F G to a (at + 1) untested (omega arith) i.1,
               ops_stay body conditions in_body F G uses.1 (uses_more conditions at in_body (omega arith) below) (tests_less F to res (omega arith) tests)
                   (same_less F G at to in_body res (omega arith) (omega arith) same) i.2,
             )) is.0,
         subst (λ t. AreComparedTurns at Slt (G.expr (at + 1)) (G.expr upper.0) t) e (compared_stays F G to a at Slt (at + 1) upper.0 (F.turns at) (omega arith) (omega (arith, lu)) is.1),
         carried_stay F G to a conditions tests (uses_more conditions at to (omega arith) below) at e (at + 2) res results (omega arith) (omega arith) is.2,
+        role_stays F G to a at counts (omega arith) is.3,
       )
   kind_stays (While args inits before passed cond after_args after ends) results conditions at F G uses below tests same is =
       let to = at + (inner_labels (While args inits before passed cond after_args after ends) + length results) in
@@ -308,6 +313,7 @@ mutual
             )) is.0,
         tested_stays F G to a at cond.0 tests (omega (arith, lc)) e is.1,
         passed_on_stay F G to a conditions tests (uses_more conditions at to (omega arith) below) at e passed res results lp (omega arith) is.2,
+        role_stays F G to a at counts (omega arith) is.3,
       )
 
 -- ---- lists of operations

@@ -1,61 +1,36 @@
 -- The expressions of all values of well-typed operations have the widths of their types.
-use Rattle.std.proofs.Common.{◌≡◌, ℕ, ◌+◌, ◌==◌, ◌⊎◌, inl, inr, Bool, true, false, List, [], ◌∷◌, ◌++◌, length, refl, sym, ap, ◌∙◌, subst, arith, Option, Some, None, if◌then◌else◌}
+use Rattle.std.proofs.Common.{◌≡◌, ℕ, ◌+◌, ◌==◌, true, List, [], ◌∷◌, ◌++◌, length, refl, sym, ap, ◌∙◌, subst, arith, Option, Some, None}
 use Rattle.std.proofs.lemmas.Bool.{and_parts, eqb-true}
 use Rattle.std.specs.List.{list_all}
-use Rattle.std.specs.Option.{option_or, option_map_or, is_some}
+use Rattle.std.specs.Option.{option_map_or, is_some}
 use Rattle.arith_word.specs.Labels.{label_at}
 use Rattle.arith_word.specs.declared.label.Label.{Label}
-use Rattle.mlir_ir.specs.declared.types.Arg.{Arg}
+use Rattle.mlir_ir.proofs.SizedFunctions.{well_formed}
+use Rattle.mlir_ir.specs.Check.{IsWellFormed}
+use Rattle.mlir_ir.specs.Loops.{func_loops}
+use Rattle.mlir_ir.specs.Values.{func_values, type_at}
+use Rattle.mlir_ir.specs.WellFormed.{IsTypedBody}
+use Rattle.mlir_ir.specs.declared.types.Body.{Body}
+use Rattle.mlir_ir.specs.declared.types.Func.{Func}
 use Rattle.mlir_ir.specs.declared.types.IrType.{IrType}
 use Rattle.mlir_ir.specs.declared.types.IrType.TheVariants.{Int, Index}
 use Rattle.mlir_ir.specs.declared.types.Pack.{Pack}
 use Rattle.mlir_ir.specs.Operations.{OpKind, Simple, If, For, While, OpList, nil, next, labels_of, inner_labels}
 use Rattle.mlir_ir.specs.Rules.{arg_types, same_type, same_types, truth}
-use Rattle.mlir_ir.specs.Typed.{Types, typed_from, with_types, knows, fits, all_fit, TypedOp, types_after, TypedOps, TypedRegions, TypedItems, untyped, args_typed}
+use Rattle.mlir_ir.specs.Typed.{Types, with_types, knows, fits, all_fit, TypedOp, types_after, TypedOps, TypedRegions, TypedItems, args_typed}
 use Rattle.mlir_ir.specs.Words.{bits_of}
-use Rattle.fresh_scev.specs.Facts.{Facts, ArePassed, IsOps, IsKind, IsItems, round_limit}
+use Rattle.fresh_scev.specs.Facts.{Facts, ArePassed, IsOps, IsKind, IsItems, IsFacts, items_in, round_limit}
+use Rattle.fresh_scev.specs.Each.{EachItems}
 use Rattle.fresh_scev.specs.Insides.{for_loop, while_loop, IsForInside, IsWhileInside}
 use Rattle.fresh_scev.specs.Rules.{have_width}
-use Rattle.fresh_scev.specs.Widths.{AreWide, KnowsWidths, OpsAreWide, InsideIsWide, ItemsAreWide}
-use Rattle.fresh_scev.proofs.ResultWidths.{fitting_wide, own_are_wide, ruled_are_wide, merged_are_wide, rounds_are_wide, rounds_inside, carried_are_wide, passed_on_are_wide}
+use Rattle.fresh_scev.specs.Widths.{IsWide, IsCounting, AreWide, KnowsWidths, OpsAreWide, InsideIsWide}
+use Rattle.fresh_scev.proofs.EachValue.{Counted, each_with, each_after, each_arg, function_holds}
+use Rattle.fresh_scev.proofs.ResultWidths.{untested_value, fitting_wide, own_are_wide, ruled_are_wide, merged_are_wide, rounds_are_wide, rounds_inside, carried_are_wide, passed_on_are_wide}
 use Rattle.fresh_scev.proofs.StandingFacts.{types_length}
-
--- ---- scopes
-
-if_typed : (b : Bool) (x ty : IrType) (o : Option IrType) → (if b then Some x else o) ≡ Some ty → ((b ≡ true) × (x ≡ ty)) ⊎ (o ≡ Some ty)
-if_typed true x ty o h = inl (refl, some_same h)
-  where
-    some_same : {x y : IrType} → Some x ≡ Some y → x ≡ y
-    some_same e = cc
-if_typed false x ty o h = inr h
-
-pub typed_widths : (F : Facts) (at : ℕ) (tys : List IrType) → AreWide F at tys → KnowsWidths (typed_from at tys) F
-typed_widths F at [] wide l ty h = absurd (cc)
-typed_widths F at (x ∷ tys) wide l ty h =
-    elim (if_typed (at == l) x ty (typed_from (at + 1) tys l) h) [
-      | inl e ↦ ap (λ l. (F.expr l).w) (sym (eqb-true at l e.0)) ∙ wide.0 ∙ ap bits_of e.1
-      | inr k ↦ typed_widths F (at + 1) tys wide.1 l ty k
-    ]
-
-pub either_typed : (x y : Option IrType) (ty : IrType) → option_or x y ≡ Some ty → (x ≡ Some ty) ⊎ (y ≡ Some ty)
-either_typed (Some t) y ty h = inl h
-either_typed None y ty h = inr h
-
-pub with_widths : (F : Facts) (T : Types) (at : ℕ) (tys : List IrType) → KnowsWidths T F → AreWide F at tys → KnowsWidths (with_types T at tys) F
-with_widths F T at tys known wide l ty h =
-    elim (either_typed (T l) (typed_from at tys l) ty h) [
-      | inl g ↦ known l ty g
-      | inr g ↦ typed_widths F at tys wide l ty g
-    ]
-
-pub after_widths : (ops : OpList) (F : Facts) (T : Types) (at : ℕ) → KnowsWidths T F → OpsAreWide ops at F → KnowsWidths (types_after T at ops) F
-after_widths nil F T at known wide = known
-after_widths (next packs results kind rest) F T at known wide =
-    after_widths rest F (with_types T (at + inner_labels kind) results) (at + (inner_labels kind + length results)) (with_widths F T (at + inner_labels kind) results known wide.1) wide.2
 
 -- ---- passed values
 
-same_bits : (a b : IrType) → same_type a b ≡ true → bits_of a ≡ bits_of b
+pub same_bits : (a b : IrType) → same_type a b ≡ true → bits_of a ≡ bits_of b
 same_bits (Int a) (Int b) h = eqb-true a b h
 same_bits (Int a) Index h = absurd (cc)
 same_bits Index (Int b) h = absurd (cc)
@@ -74,8 +49,8 @@ passed_are_wide F T label (ty ∷ tys) (x ∷ wanted) (y ∷ passed) known scope
     let f = and_parts (fits T x y) (all_fit T wanted passed) fit in
     let s = and_parts (same_type ty x) (same_types tys wanted) same in
     let k = and_parts (knows T y) (list_all (knows T) passed) scope in
-    let width : (F.expr y.0).w ≡ bits_of x = fit_bits (T y.0) x F y.0 (λ t e. known y.0 t e) k.0 f.0 in (
-      ap (λ e. e.w) h.0.0 ∙ width ∙ sym (same_bits ty x s.0),
+    let width : (F.expr y.0).w ≡ bits_of x = fit_bits (T y.0) x F y.0 (λ t e. (known y.0 t e).0) k.0 f.0 in (
+      (ap (λ e. e.w) h.0.0 ∙ width ∙ sym (same_bits ty x s.0), untested_value (F.role label) h.0.1),
       passed_are_wide F T (label + 1) tys wanted passed known k.1 f.1 s.1 (omega (arith, many)) h.1,
     )
 
@@ -86,7 +61,7 @@ mutual
   ops_are_wide nil conditions F T at known t h = tt
   ops_are_wide (next packs results kind rest) conditions F T at known t h =
       let k = kind_is_wide kind conditions F T packs results at known t.0 t.1 h.0 in
-      (k.0, k.1, ops_are_wide rest conditions F (with_types T (at + inner_labels kind) results) (at + (inner_labels kind + length results)) (with_widths F T (at + inner_labels kind) results known k.1) t.2 h.1)
+      (k.0, k.1, ops_are_wide rest conditions F (with_types T (at + inner_labels kind) results) (at + (inner_labels kind + length results)) (each_with (IsWide F) T (at + inner_labels kind) results known k.1) t.2 h.1)
 
   kind_is_wide : (kind : OpKind) (conditions : List Label) (F : Facts) (T : Types) (packs : List Pack) (results : List IrType) (at : ℕ) → KnowsWidths T F → TypedOp T packs results kind → TypedRegions T at results kind
       → IsKind conditions kind results at F → InsideIsWide kind at F × AreWide F (at + inner_labels kind) results
@@ -104,11 +79,12 @@ mutual
       let own_args = rounds_are_wide (for_loop at args inits ends) Inside round_limit F h.0 in
       let inside = rounds_inside (for_loop at args inits ends) Inside round_limit F h.0 in
       let w = bits_of iv.ty in
-      let one : AreWide F (at + 1) (iv.ty ∷ []) = (fitting_wide (have_width w (F.expr lower.0) (F.expr step.0)) w (at + 1) (F.expr (at + 1)) _ (λ t r. r.2.width) inside.0, tt) in
+      let one : AreWide F (at + 1) (iv.ty ∷ []) =
+      ((fitting_wide (have_width w (F.expr lower.0) (F.expr step.0)) w (at + 1) (F.expr (at + 1)) _ (λ t r. r.2.width) inside.0, untested_value (F.role (at + 1)) inside.1), tt) in
       let U = with_types (with_types T (at + 1) (iv.ty ∷ [])) (at + 2) (arg_types args) in
-      let known_inside = with_widths F (with_types T (at + 1) (iv.ty ∷ [])) (at + 2) (arg_types args) (with_widths F T (at + 1) (iv.ty ∷ []) known one) own_args in
+      let known_inside = each_with (IsWide F) (with_types T (at + 1) (iv.ty ∷ [])) (at + 2) (arg_types args) (each_with (IsWide F) T (at + 1) (iv.ty ∷ []) known one) own_args in
       let e : in_body + labels_of body ≡ at + inner_labels (For lower upper step iv args inits body ends) = omega arith in (
-        (one, own_args, ops_are_wide body conditions F U in_body known_inside r.0 inside.2),
+        (h.3, one, own_args, ops_are_wide body conditions F U in_body known_inside r.0 inside.2),
         subst (λ l. AreWide F l results) e (carried_are_wide F conditions at (at + 2) (in_body + labels_of body) results h.2),
       )
   kind_is_wide (While args inits before passed cond after_args after ends) conditions F T packs results at known t r h =
@@ -120,8 +96,8 @@ mutual
       let inside = rounds_inside (while_loop at args inits ends) Inside round_limit F h.0 in
       let U = with_types T (at + 1) (arg_types args) in
       let V = with_types T params (arg_types after_args) in
-      let first = ops_are_wide before conditions F U in_before (with_widths F T (at + 1) (arg_types args) known own_args) r.0 inside.0 in
-      let behind = after_widths before F U in_before (with_widths F T (at + 1) (arg_types args) known own_args) first in
+      let first = ops_are_wide before conditions F U in_before (each_with (IsWide F) T (at + 1) (arg_types args) known own_args) r.0 inside.0 in
+      let behind = each_after (IsWide F) (IsCounting F) before U in_before (each_with (IsWide F) T (at + 1) (arg_types args) known own_args) first in
       let scope = and_parts (knows (types_after U in_before before) cond) (list_all (knows (types_after U in_before before)) passed) r.1.in_scope in
       let fit = and_parts (fits (types_after U in_before before) truth cond) (all_fit (types_after U in_before before) results passed) r.1.typed in
       let counts = and_parts (length inits == length args) (length after_args == length results) t.counted in
@@ -129,18 +105,25 @@ mutual
       let many : length (arg_types after_args) ≡ length results = types_length after_args ∙ as_many in
       let given : AreWide F params (arg_types after_args) = passed_are_wide F (types_after U in_before before) params (arg_types after_args) results passed behind scope.1 fit.1 r.2 many inside.1 in
       let e : in_after + labels_of after ≡ at + inner_labels (While args inits before passed cond after_args after ends) = omega arith in (
-        (own_args, first, given, ops_are_wide after conditions F V in_after (with_widths F T params (arg_types after_args) known given) r.3 inside.2),
+        (h.3, own_args, first, given, ops_are_wide after conditions F V in_after (each_with (IsWide F) T params (arg_types after_args) known given) r.3 inside.2),
         subst (λ l. AreWide F l results) e (passed_on_are_wide F conditions at passed (in_after + labels_of after) results h.2),
       )
 
 -- ---- items
 
-pub items_are_wide : (func k : ℕ) (items : List OpList) (F : Facts) (T : Types) → KnowsWidths T F → TypedItems T func k items → IsItems func k items F → ItemsAreWide func k items F
+items_are_wide : (func k : ℕ) (items : List OpList) (F : Facts) (T : Types) → KnowsWidths T F → TypedItems T func k items → IsItems func k items F → EachItems (IsWide F) (IsCounting F) func k items
 items_are_wide func k [] F T known t h = tt
 items_are_wide func k (ops ∷ items) F T known t h =
     let at = label_at func k 0 in
     let first = ops_are_wide ops [] F T at known t.0 h.0 in
-    (first, items_are_wide func (k + 1) items F (types_after T at ops) (after_widths ops F T at known first) t.1 h.1)
+    (first, items_are_wide func (k + 1) items F (types_after T at ops) (each_after (IsWide F) (IsCounting F) ops T at known first) t.1 h.1)
 
-pub args_known : (F : Facts) (func : ℕ) (args : List Arg) → AreWide F (label_at func 0 0) (arg_types args) → KnowsWidths (args_typed func args) F
-args_known F func args wide = with_widths F untyped (label_at func 0 0) (arg_types args) (λ l ty e. absurd (cc)) wide
+body_is_wide : (f : Func) (body : Option Body) (F : Facts) → KnowsWidths (args_typed f.index f.args) F → IsTypedBody f body → IsItems f.index 1 (items_in body) F → EachItems (IsWide F) (IsCounting F) f.index 1 (items_in body)
+body_is_wide f None F known t h = tt
+body_is_wide f (Some body) F known t h = items_are_wide f.index 1 _ F (args_typed f.index f.args) known t.inside h
+
+-- the labels of a function's values are those of values, with the widths of their types, and those of its loops' counters count
+pub function_is_wide : (f : Func) (F : Facts) → IsWellFormed f → IsFacts f F → KnowsWidths (type_at (func_values f)) F × Counted (IsWide F) (IsCounting F) (func_loops f)
+function_is_wide f F well is =
+    let args = own_are_wide F (label_at f.index 0 0) (arg_types f.args) is.arguments in
+    function_holds (IsWide F) (IsCounting F) f well args (body_is_wide f f.body F (each_arg (IsWide F) f.index f.args args) (well_formed f well).0 is.items)

@@ -70,7 +70,7 @@ after_low (next packs results kind rest) T at h =
     let low : KnowsBelow U mid = knows_more U (here + length results) mid (omega arith) (with_low T here results (knows_more T at here (omega arith) h)) in
     knows_more (types_after U mid rest) (mid + labels_of rest) (at + labels_of (next packs results kind rest)) (omega arith) (after_low rest U mid low)
 
-uses_low : (T : Types) (at : ℕ) (ls : List Label) → KnowsBelow T at → list_all (knows T) ls ≡ true → AreBelow ls at
+pub uses_low : (T : Types) (at : ℕ) (ls : List Label) → KnowsBelow T at → list_all (knows T) ls ≡ true → AreBelow ls at
 uses_low T at [] h k = tt
 uses_low T at (l ∷ ls) h k =
     let p = and_parts (knows T l) (list_all (knows T) ls) k in
@@ -78,7 +78,7 @@ uses_low T at (l ∷ ls) h k =
 
 -- ---- operations
 
-carries : (kind : OpKind) (T : Types) (packs : List Pack) (results : List IrType) → TypedOp T packs results kind → CarriesResults kind results
+pub carries : (kind : OpKind) (T : Types) (packs : List Pack) (results : List IrType) → TypedOp T packs results kind → CarriesResults kind results
 carries (Simple does) T packs results t = tt
 carries (If c first firsts has_else other others) T packs results t = tt
 carries (For lower upper step iv args inits body ends) T packs results t =

@@ -1,5 +1,5 @@
 -- Steps of the walk over a function: what each needs, and what it shows of the table.
-use Rattle.std.proofs.Common.{◌≡◌, ℕ, zero, suc, ◌+◌, ◌*◌, ◌-◌, ◌^◌, ◌<◌, ◌≤◌, Bool, true, false, List, [], ◌∷◌, ◌++◌, length, get_or, take, drop, refl, sym, ap, ◌∙◌, subst, arith, Result, Ok, Err, OnOk, Option, Some, None}
+use Rattle.std.proofs.Common.{◌≡◌, ℕ, suc, ◌+◌, ◌*◌, ◌-◌, ◌^◌, ◌<◌, ◌≤◌, Bool, true, false, List, [], ◌∷◌, ◌++◌, length, get_or, take, drop, refl, sym, ap, ◌∙◌, subst, arith, Result, Ok, Err, OnOk, Option, Some, None}
 use Rattle.std.proofs.lemmas.List.{take-append-drop, drop_more, take_more, take_all}
 use Rattle.arith_word.specs.Labels.{label_at}
 use Rattle.arith_word.specs.declared.label.Label.{Label}
@@ -29,7 +29,7 @@ use Rattle.fresh_scev.specs.UsesBelow.{AreBelow, CarriesResults, DoUseBelow, Doe
 use Rattle.fresh_scev.specs.Walked.{Says, AreKindRuled, SimpleUsesBelow}
 use Rattle.fresh_scev.proofs.GrowingTables.{next_later, grows_on, room_later, room_less}
 use Rattle.fresh_scev.proofs.PartViews.{if_view, else_view}
-use Rattle.fresh_scev.proofs.Pushed.{labels_pushed, uses_at}
+use Rattle.fresh_scev.proofs.Pushed.{uses_at}
 use Rattle.fresh_scev.proofs.StandingFacts.{uses_more, uses_append, view_joined, labels_joined}
 use Rattle.fresh_scev.proofs.CountedRounds.{still_rounds}
 use Rattle.fresh_scev.proofs.Walks.{says_no_ops, says_op_more, says_if, says_for_first, says_for_next, Turn, says_while_first, says_while_next}
@@ -303,13 +303,13 @@ module _ (s : Table) (h : ForHead) (body : Region) (results : List IrType) (here
       pub for_counter : IsCounter (facts_of c) (next_label s) → IsCounter (facts_of u) h.counter.0
       for_counter k =
           let f = next_later s c 1 begun in
-          subst (IsCounter (facts_of u)) (sym here) (sym (rounds.grows.stay.exprs (next_label s) (omega (arith, f))) ∙ k.0, sym (rounds.grows.stay.tests (next_label s) (omega (arith, f))) ∙ k.1)
+          subst (IsCounter (facts_of u)) (sym here) (sym (rounds.grows.stay.exprs (next_label s) (omega (arith, f))) ∙ k.0, sym (rounds.grows.stay.roles (next_label s) (omega (arith, f))) ∙ k.1)
 
       pub for_arguments : length results ≤ length h.args.now → first_of_for h + length results ≤ next_label u
       for_arguments few = let f = next_later s u (1 + for_inside_labels h body) all in omega (arith, f, here, few)
 
-      pub for_said : (w : Table) → EndsFor u.conditions.items h results u w → SaysKind s w (for_of h body) results
-      for_said w ends =
+      pub for_said : (w : Table) → IsCounter (facts_of c) (next_label s) → EndsFor u.conditions.items h results u w → SaysKind s w (for_of h body) results
+      for_said w k ends =
           let at = next_label s in
           let v = ends.settled in
           let args = h.args.now in
@@ -326,7 +326,7 @@ module _ (s : Table) (h : ForHead) (body : Region) (results : List IrType) (here
           subst (λ l. Says v w (length results) (λ F. AreCarried F u.conditions.items l (l + 2) (next_label v) results)) here ends.carried in
           let carried3 : Says v w (length results) (λ F. AreCarried F conditions at (at + 2) (next_label v) results) =
           subst (λ ls. Says v w (length results) (λ F. AreCarried F ls at (at + 2) (next_label v) results)) all.same.conditions carried2 in
-          says_for conditions h.lower h.upper h.step h.iv.now args h.inits.now (rows_of body) (ends_of body) results s c u v w ends.turns uses ready.conditions begun rounds3 settles counted carried3
+          says_for conditions h.lower h.upper h.step h.iv.now args h.inits.now (rows_of body) (ends_of body) results s c u v w ends.turns uses ready.conditions begun k.1 rounds3 settles counted carried3
 
 -- ---- the rounds of an `scf.for`
 
@@ -419,15 +419,15 @@ module _ (s : Table) (h : WhileHead) (before after : Region) (results : List IrT
       pub while_counter : IsCounter (facts_of c) (next_label s) → IsCounter (facts_of u) h.counter.0
       while_counter k =
           let f = next_later s c 1 begun in
-          subst (IsCounter (facts_of u)) (sym here) (sym (rounds.grows.stay.exprs (next_label s) (omega (arith, f))) ∙ k.0, sym (rounds.grows.stay.tests (next_label s) (omega (arith, f))) ∙ k.1)
+          subst (IsCounter (facts_of u)) (sym here) (sym (rounds.grows.stay.exprs (next_label s) (omega (arith, f))) ∙ k.0, sym (rounds.grows.stay.roles (next_label s) (omega (arith, f))) ∙ k.1)
 
       pub while_passed : AreBelow (ends_of before) (next_label u)
       while_passed =
           let f = next_later s u (1 + while_inside_labels h before after) whole in
           uses_more (ends_of before) (next_label s + 1 + length h.args.now + labels_of (rows_of before)) (next_label u) (omega (arith, f)) uses.2.1
 
-      pub while_said : (w : Table) (passed : List Label) → passed ≡ ends_of before → EndsWhile u.conditions.items h passed results u w → SaysKind s w (while_of h before after) results
-      while_said w passed e ends =
+      pub while_said : (w : Table) (passed : List Label) → passed ≡ ends_of before → IsCounter (facts_of c) (next_label s) → EndsWhile u.conditions.items h passed results u w → SaysKind s w (while_of h before after) results
+      while_said w passed e k ends =
           let at = next_label s in
           let v = ends.settled in
           let args = h.args.now in
@@ -438,15 +438,15 @@ module _ (s : Table) (h : WhileHead) (before after : Region) (results : List IrT
           let rounds3 : Says c u many (Rounds (while_loop at args h.inits.now (ends_of after)) (IsWhileInside conditions (at + 1 + length args) (rows_of before) (ends_of before) h.params.now (rows_of after)) round_limit) =
           subst (λ l. Says c u many (Rounds (while_loop l args h.inits.now (ends_of after)) (IsWhileInside conditions (l + 1 + length args) (rows_of before) (ends_of before) h.params.now (rows_of after)) round_limit)) here rounds2 in
           let settles : Settles u v at ends.turns = subst (λ l. Settles u v l ends.turns) here ends.settles in
-          let counted : IsTested (facts_of u) at (number_in ((facts_of u).expr h.cond.0).p) ((facts_of u).test h.cond.0) ends.turns =
-          subst (λ l. IsTested (facts_of u) l (number_in ((facts_of u).expr h.cond.0).p) ((facts_of u).test h.cond.0) ends.turns) here ends.counted in
+          let counted : IsTested (facts_of u) at (number_in ((facts_of u).expr h.cond.0).p) ((facts_of u).role h.cond.0) ends.turns =
+          subst (λ l. IsTested (facts_of u) l (number_in ((facts_of u).expr h.cond.0).p) ((facts_of u).role h.cond.0) ends.turns) here ends.counted in
           let carried1 : Says v w (length results) (λ F. ArePassedOn F u.conditions.items h.counter.0 (ends_of before) (next_label v) results) =
           subst (λ ls. Says v w (length results) (λ F. ArePassedOn F u.conditions.items h.counter.0 ls (next_label v) results)) e ends.carried in
           let carried2 : Says v w (length results) (λ F. ArePassedOn F u.conditions.items at (ends_of before) (next_label v) results) =
           subst (λ l. Says v w (length results) (λ F. ArePassedOn F u.conditions.items l (ends_of before) (next_label v) results)) here carried1 in
           let carried3 : Says v w (length results) (λ F. ArePassedOn F conditions at (ends_of before) (next_label v) results) =
           subst (λ ls. Says v w (length results) (λ F. ArePassedOn F ls at (ends_of before) (next_label v) results)) whole.same.conditions carried2 in
-          says_while conditions args h.inits.now (rows_of before) (ends_of before) h.cond h.params.now (rows_of after) (ends_of after) results s c u v w ends.turns uses ready.conditions begun rounds3 settles counted carried3
+          says_while conditions args h.inits.now (rows_of before) (ends_of before) h.cond h.params.now (rows_of after) (ends_of after) results s c u v w ends.turns uses ready.conditions begun k.1 rounds3 settles counted carried3
 
 -- ---- both regions of an `scf.while`
 

@@ -16,7 +16,7 @@ use Rattle.fresh_scev.specs.Facts.{AreOwn, IsOps, IsFacts, items_in}
 use Rattle.fresh_scev.specs.Heads.{CanWalk}
 use Rattle.fresh_scev.specs.LabelsFit.{FitsLabels}
 use Rattle.fresh_scev.specs.Sealed.{Seals, HasItems}
-use Rattle.fresh_scev.specs.Table.{facts_in, next_label, HasRoom}
+use Rattle.fresh_scev.specs.Table.{facts_in, next_label, HasRoom, AreKnown}
 use Rattle.fresh_scev.specs.UnderWay.{HasFirstItems}
 use Rattle.fresh_scev.specs.UsesBelow.{AreBelow, DoUseBelow, DoItemsUseBelow}
 use Rattle.fresh_scev.specs.Walked.{Says}
@@ -110,4 +110,7 @@ module _ (f : Func) (well : IsWellFormed f) where
   pub has_facts : (items : List Item) → view_items items ≡ items_in f.body → (t : Table) (k : ℕ) → length items ≤ k → HasFirstItems f t (take k items) → IsFacts f (facts_in t.func t.items)
   has_facts items same t k le first =
       let has : HasItems t (arg_types f.args) items = subst (HasItems t (arg_types f.args)) (take_all k items le) first.has in
-      facts_finished t first.has.begins f (all_items f t items first.func (sym same) has)
+      facts_finished t first.has.begins (IsFacts f) (all_items f t items first.func (sym same) has)
+
+  pub has_known : (items : List Item) (t : Table) → HasFirstItems f t items → AreKnown (facts_in t.func t.items)
+  has_known items t first = facts_finished t first.has.begins AreKnown first.has.known

@@ -8,7 +8,7 @@ use Rattle.mlir_ir.specs.Operations.{For, While, OpList, labels_of}
 use Rattle.trip_count.specs.declared.answer.Turns.{Turns}
 use Rattle.fresh_scev.specs.declared.table.Table.{Table}
 use Rattle.fresh_scev.specs.Expressions.{number_in}
-use Rattle.fresh_scev.specs.Facts.{Rounds, round_limit, IsTested, AreCarried, ArePassedOn, IsKind}
+use Rattle.fresh_scev.specs.Facts.{counts, Rounds, round_limit, IsTested, AreCarried, ArePassedOn, IsKind}
 use Rattle.fresh_scev.specs.Insides.{for_loop, while_loop, IsForInside, IsWhileInside}
 use Rattle.fresh_scev.specs.Loops.{AreComparedTurns}
 use Rattle.fresh_scev.specs.SameFacts.{SameFacts}
@@ -39,7 +39,7 @@ settled_grows s u v n t a g =
       longer = omega (arith, la, lg);
       stay = record {
         exprs = λ l lt. a.stay.exprs l lt ∙ g.stay.exprs l (omega (arith, lt, next));
-        tests = λ l lt. a.stay.tests l lt ∙ g.stay.tests l (omega (arith, lt, next));
+        roles = λ l lt. a.stay.roles l lt ∙ g.stay.roles l (omega (arith, lt, next));
         turns = λ l ge lt. a.stay.turns l ge lt ∙ g.before l lt;
       };
       known = g.known;
@@ -51,22 +51,29 @@ settled_same u v w at k t g b =
     let next = next_settled u v at t g in
     record {
       exprs = λ l lt. g.stay.exprs l lt ∙ b.stay.exprs l (omega (arith, lt, next));
-      tests = λ l lt. g.stay.tests l lt ∙ b.stay.tests l (omega (arith, lt, next));
+      roles = λ l lt. g.stay.roles l lt ∙ b.stay.roles l (omega (arith, lt, next));
       turns = λ l ge lt. g.stay.turns l ge lt ∙ b.stay.turns l (omega arith) (omega (arith, lt, next));
     }
 
 settled_turns : (u v w : Table) (at k : ℕ) (t : Turns) → at < next_label u → Settles u v at t → Grows v w k → t ≡ (facts_of w).turns at
 settled_turns u v w at k t lt g b = let next = next_settled u v at t g in sym g.settled ∙ b.stay.turns at (omega arith) (omega (arith, lt, next))
 
+-- the counter keeps its role
+counter_named : (c u v w : Table) (at m n : ℕ) (t : Turns) → at < next_label c → (facts_of c).role at ≡ counts → Grows c u m → Settles u v at t → Grows v w n → (facts_of w).role at ≡ counts
+counter_named c u v w at m n t lt named a g b =
+    let f = next_later c u m a in
+    let e = next_settled u v at t g in
+    sym (b.stay.roles at (omega (arith, e, f, lt))) ∙ sym (g.stay.roles at (omega (arith, f, lt))) ∙ sym (a.stay.roles at lt) ∙ named
+
 -- c is the table with the loop's counter, u that after the rounds, v that with the trip count, and w that with the results
 
 module _ (conditions : List Label) (lower upper step : Label) (iv : Arg) (args : List Arg) (inits : List Label) (body : OpList) (ends : List Label) (results : List IrType) (s c u v w : Table) where
-  pub says_for : (t : Turns) → DoesUseBelow (For lower upper step iv args inits body ends) (next_label s) → AreBelow conditions (next_label s) → Grows s c 1
+  pub says_for : (t : Turns) → DoesUseBelow (For lower upper step iv args inits body ends) (next_label s) → AreBelow conditions (next_label s) → Grows s c 1 → (facts_of c).role (next_label s) ≡ counts
       → Says c u (1 + length args + labels_of body) (Rounds (for_loop (next_label s) args inits ends) (IsForInside conditions (next_label s) lower step iv (next_label s + 2 + length args) body) round_limit)
       → Settles u v (next_label s) t → AreComparedTurns (next_label s) Slt ((facts_of u).expr (next_label s + 1)) ((facts_of u).expr upper.0) t
       → Says v w (length results) (λ F. AreCarried F conditions (next_label s) (next_label s + 2) (next_label v) results)
       → Says s w (2 + length args + labels_of body + length results) (IsKind conditions (For lower upper step iv args inits body ends) results (next_label s))
-  says_for t uses below begun rounds settles counted carried =
+  says_for t uses below begun named rounds settles counted carried =
       let at = next_label s in
       let m = 1 + length args + labels_of body in
       let n = length results in
@@ -90,17 +97,18 @@ module _ (conditions : List Label) (lower upper step : Label) (iv : Arg) (args :
           subst (λ x. AreComparedTurns at Slt (G.expr (at + 1)) (G.expr upper.0) x) turns
               (compared_stays F G to (same_alike F G (at + 1) to to (omega arith) same) at Slt (at + 1) upper.0 t (omega arith) (omega (arith, lu)) counted),
           subst (λ l. AreCarried G conditions at (at + 2) l results) e2 carried.facts,
+          counter_named c u v w at m n t (omega (arith, f1)) named rounds.grows settles carried.grows,
         );
       }
 
 module _ (conditions : List Label) (args : List Arg) (inits : List Label) (before : OpList) (passed : List Label) (cond : Label) (after_args : List Arg) (after : OpList) (ends : List Label) (results : List IrType) (s c u v w : Table) where
-  pub says_while : (t : Turns) → DoesUseBelow (While args inits before passed cond after_args after ends) (next_label s) → AreBelow conditions (next_label s) → Grows s c 1
+  pub says_while : (t : Turns) → DoesUseBelow (While args inits before passed cond after_args after ends) (next_label s) → AreBelow conditions (next_label s) → Grows s c 1 → (facts_of c).role (next_label s) ≡ counts
       → Says c u (length args + (labels_of before + (length after_args + labels_of after)))
       (Rounds (while_loop (next_label s) args inits ends) (IsWhileInside conditions (next_label s + 1 + length args) before passed after_args after) round_limit)
-      → Settles u v (next_label s) t → IsTested (facts_of u) (next_label s) (number_in ((facts_of u).expr cond.0).p) ((facts_of u).test cond.0) t
+      → Settles u v (next_label s) t → IsTested (facts_of u) (next_label s) (number_in ((facts_of u).expr cond.0).p) ((facts_of u).role cond.0) t
       → Says v w (length results) (λ F. ArePassedOn F conditions (next_label s) passed (next_label v) results)
       → Says s w (1 + length args + labels_of before + length after_args + labels_of after + length results) (IsKind conditions (While args inits before passed cond after_args after ends) results (next_label s))
-  says_while t uses below begun rounds settles counted passed_on =
+  says_while t uses below begun named rounds settles counted passed_on =
       let at = next_label s in
       let m = length args + (labels_of before + (length after_args + labels_of after)) in
       let n = length results in
@@ -121,8 +129,9 @@ module _ (conditions : List Label) (args : List Arg) (inits : List Label) (befor
         grows = whole;
         facts = (
           while_rounds_stay conditions at args inits before passed cond after_args after ends round_limit F G uses below (tests_below u to rounds.grows.known) same rounds.facts,
-          subst (λ x. IsTested G at (number_in (G.expr cond.0).p) (G.test cond.0) x) turns
+          subst (λ x. IsTested G at (number_in (G.expr cond.0).p) (G.role cond.0) x) turns
               (test_same_holds F G to (same_alike F G (at + 1) to to (omega arith) same) at cond.0 t (tests_below u to rounds.grows.known) (omega (arith, lc)) counted),
           subst (λ l. ArePassedOn G conditions at passed l results) e2 passed_on.facts,
+          counter_named c u v w at m n t (omega (arith, f1)) named rounds.grows settles passed_on.grows,
         );
       }

@@ -1,5 +1,5 @@
 -- Tables that say of operations, of regions and of loops what they have to, as the walk over a function goes on.
-use Rattle.std.proofs.Common.{◌≡◌, ℕ, suc, ◌+◌, ◌≤◌, Bool, List, [], ◌∷◌, ◌++◌, length, sym, subst, arith, None}
+use Rattle.std.proofs.Common.{◌≡◌, ℕ, suc, ◌+◌, ◌≤◌, Bool, List, [], ◌∷◌, ◌++◌, length, sym, subst, arith}
 use Rattle.arith_word.specs.declared.label.Label.{Label}
 use Rattle.mlir_ir.specs.declared.types.Arg.{Arg}
 use Rattle.mlir_ir.specs.declared.types.IrType.{IrType}
@@ -9,7 +9,7 @@ use Rattle.mlir_ir.specs.Rules.{arg_types}
 use Rattle.mlir_ir.specs.View.{view_kind, view_ops}
 use Rattle.mlir_ir.specs.Words.{bits_of}
 use Rattle.fresh_scev.specs.declared.table.Table.{Table}
-use Rattle.fresh_scev.specs.Facts.{Facts, AreOwn, AreNext, AreAlike, AreMerged, ArePassed, Rounds, IsOps, IsKind}
+use Rattle.fresh_scev.specs.Facts.{Facts, untested, AreOwn, AreNext, AreAlike, AreMerged, ArePassed, Rounds, IsOps, IsKind}
 use Rattle.fresh_scev.specs.Insides.{for_loop, while_loop, IsForInside, IsWhileInside}
 use Rattle.fresh_scev.specs.Loops.{IsVariable}
 use Rattle.fresh_scev.specs.SameFacts.{SameFacts, AreTestsBelow}
@@ -18,12 +18,12 @@ use Rattle.fresh_scev.specs.UsesBelow.{AreBelow, DoUseBelow, DoesUseBelow}
 use Rattle.fresh_scev.specs.Walked.{Says}
 use Rattle.fresh_scev.proofs.GrowingTables.{next_later, grows_on, grows_none, grown_alike}
 use Rattle.fresh_scev.proofs.Pushed.{labels_pushed, ops_grow}
-use Rattle.fresh_scev.proofs.StandingFacts.{same_less, alike_less, alike_turned, alike_chained, uses_more, uses_append, types_length, ops_stay, kind_stays, own_stay, next_stay, passed_stay, variable_stays, test_stays}
+use Rattle.fresh_scev.proofs.StandingFacts.{same_less, alike_less, alike_turned, alike_chained, uses_more, uses_append, types_length, ops_stay, kind_stays, own_stay, next_stay, passed_stay, variable_stays, role_stays}
 
 -- ---- tables
 
 pub tests_below : (t : Table) (to : ℕ) → AreKnown (facts_of t) → AreTestsBelow (facts_of t) to
-tests_below t to known = λ l lt. known.tests l
+tests_below t to known = λ l lt. known.roles l
 
 -- two tables that grew from one are alike below it
 pub both_alike : (s t u : Table) (m n : ℕ) → Grows s t m → Grows s u n → AreAlike (facts_of t) (facts_of u) (next_label s)
@@ -97,7 +97,7 @@ says_if s t u v conditions c first firsts has_else other others results uses bel
 module _ (conditions : List Label) (at : ℕ) (lower upper step : Label) (iv : Arg) (args : List Arg) (inits : List Label) (body : OpList) (ends : List Label) (s t u : Table) where
   -- the induction variable, with what is known of the arguments
   abbrev pub HasVariable : (Facts → Type 0) → Facts → Type 0
-  HasVariable Args F = IsVariable at (bits_of iv.ty) (at + 1) (F.expr lower.0) (F.expr step.0) (F.expr (at + 1)) × (F.test (at + 1) ≡ None) × Args F
+  HasVariable Args F = IsVariable at (bits_of iv.ty) (at + 1) (F.expr lower.0) (F.expr step.0) (F.expr (at + 1)) × (F.role (at + 1) ≡ untested) × Args F
 
   pub for_inside : (Args : Facts → Type 0) → next_label s ≡ at + 1 → DoesUseBelow (For lower upper step iv args inits body ends) at → Says s t (1 + length args) (HasVariable Args)
       → Says t u (labels_of body) (IsOps conditions body (next_label t)) → IsForInside conditions at lower step iv (at + 2 + length args) body (facts_of u)
@@ -108,7 +108,7 @@ module _ (conditions : List Label) (at : ℕ) (lower upper step : Label) (iv : A
       let ls = uses.0.1.1.0 in
       let alike = alike_less (facts_of t) (facts_of u) (next_label t) (at + 2) (omega (arith, e)) (grown_alike t u (labels_of body) b.grows) in (
         variable_stays (facts_of t) (facts_of u) (at + 2) alike at (bits_of iv.ty) (at + 1) lower.0 step.0 (omega (arith, ll)) (omega (arith, ls)) (omega arith) a.facts.0,
-        test_stays (facts_of t) (facts_of u) (at + 2) alike (at + 1) None (omega arith) a.facts.1,
+        role_stays (facts_of t) (facts_of u) (at + 2) alike (at + 1) untested (omega arith) a.facts.1,
         subst (λ l. IsOps conditions body l (facts_of u)) e b.facts,
       )
 

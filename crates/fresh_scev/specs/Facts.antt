@@ -24,15 +24,22 @@ pub record Comparison : Type 0 where
   pub left : ℕ
   pub right : ℕ
 
--- by label: the expression of a value, the comparison whose result it is, and the trip count of a loop
+-- what a label names: nothing, the counter of a loop, a value that is no comparison's result, or the result of a comparison
+pub data Role : Type 0 where
+  unnamed : Role
+  counts : Role
+  untested : Role
+  tested : (test : Comparison) → Role
+
+-- by label: the expression of a value, what the label names, and the trip count of a loop
 pub record Facts : Type 0 where
   pub expr : ℕ → Expression
-  pub test : ℕ → Option Comparison
+  pub role : ℕ → Role
   pub turns : ℕ → Turns
 
 -- a value that is no comparison's result
 abbrev pub IsPlain : Facts → ℕ → Expression → Type 0
-IsPlain F label e = (F.expr label ≡ e) × (F.test label ≡ None)
+IsPlain F label e = (F.expr label ≡ e) × (F.role label ≡ untested)
 
 -- values from a label on that are their own symbols
 abbrev pub AreOwn : Facts → ℕ → List IrType → Type 0
@@ -52,15 +59,15 @@ IsRuled F w label (Select c a b) e =
     fitting (have_width w (F.expr a.0) (F.expr b.0)) w label e (IsSelected w label (F.expr c.0) (F.expr a.0) (F.expr b.0) e)
 IsRuled F w label (Call func passed) e = e ≡ own w label
 
-abbrev pub test_of : SimpleOp → Option Comparison
-test_of (Cmp pred a b) = Some (record { pred = pred; left = a.0; right = b.0 })
-test_of _ = None
+abbrev pub role_of : SimpleOp → Role
+role_of (Cmp pred a b) = tested (record { pred = pred; left = a.0; right = b.0 })
+role_of _ = untested
 
 -- the results of an operation, from a label on
 abbrev pub AreRuled : Facts → ℕ → List IrType → SimpleOp → Type 0
 AreRuled F label [] does = Unit {0}
 AreRuled F label (ty ∷ tys) does =
-    IsRuled F (bits_of ty) label does (F.expr label) × (F.test label ≡ test_of does) × AreRuled F (label + 1) tys does
+    IsRuled F (bits_of ty) label does (F.expr label) × (F.role label ≡ role_of does) × AreRuled F (label + 1) tys does
 
 -- the results of an `scf.if` that begins with label `start`, by what its regions yield
 abbrev pub AreMerged : Facts → ℕ → ℕ → List IrType → List Label → List Label → Type 0
@@ -68,21 +75,21 @@ AreMerged F start label [] firsts others = Unit {0}
 AreMerged F start label (ty ∷ tys) (y ∷ firsts) (z ∷ others) =
     fitting (have_width (bits_of ty) (F.expr y.0) (F.expr z.0)) (bits_of ty) label (F.expr label)
     (IsMerged start (bits_of ty) label (F.expr y.0) (F.expr z.0) (F.expr label))
-    × (F.test label ≡ None)
+    × (F.role label ≡ untested)
     × AreMerged F start (label + 1) tys firsts others
 AreMerged F start label tys firsts others = AreOwn F label tys
 
 -- loops
 
 -- a condition is the guard of a trip count
-abbrev pub IsGuardOf : Facts → Turns → Option Comparison → Type 0
-IsGuardOf F t (Some test) = IsGuard t test.pred (F.expr test.left) (F.expr test.right)
-IsGuardOf F t None = ⊥
+abbrev pub IsGuardOf : Facts → Turns → Role → Type 0
+IsGuardOf F t (tested test) = IsGuard t test.pred (F.expr test.left) (F.expr test.right)
+IsGuardOf F t _ = ⊥
 
 -- one of these conditions is the guard of a trip count
 abbrev pub IsProved : Facts → List Label → Turns → Type 0
 IsProved F [] t = ⊥
-IsProved F (c ∷ conditions) t = IsGuardOf F t (F.test c.0) ⊎ IsProved F conditions t
+IsProved F (c ∷ conditions) t = IsGuardOf F t (F.role c.0) ⊎ IsProved F conditions t
 
 -- a loop by its counter, with the label of its first argument, the types of its arguments, their initial values and those yielded
 pub record Loop : Type 0 where
@@ -96,14 +103,14 @@ abbrev pub AreNext : ℕ → Facts → Facts → ℕ → List IrType → List La
 AreNext loop old new label [] inits ends = Unit {0}
 AreNext loop old new label (ty ∷ tys) (i ∷ inits) (y ∷ ends) =
     IsNext loop (bits_of ty) label (old.expr label) (old.expr i.0) (old.expr y.0) (new.expr label)
-    × (new.test label ≡ None)
+    × (new.role label ≡ untested)
     × AreNext loop old new (label + 1) tys inits ends
 AreNext loop old new label tys inits ends = AreOwn new label tys
 
 -- the same of the values with labels below
 pub record AreAlike (F G : Facts) (label : ℕ) : Type 0 where
   pub exprs : (l : ℕ) → l < label → F.expr l ≡ G.expr l
-  pub tests : (l : ℕ) → l < label → F.test l ≡ G.test l
+  pub roles : (l : ℕ) → l < label → F.role l ≡ G.role l
 
 -- F are the facts of a loop's inside after n rounds; Inside says that facts are those of the inside under the arguments that they have
 abbrev pub Rounds : Loop → (Facts → Type 0) → ℕ → Facts → Type 0
@@ -121,17 +128,17 @@ ArePassed F label (ty ∷ tys) (y ∷ passed) = IsPlain F label (F.expr y.0) × 
 ArePassed F label tys [] = AreOwn F label tys
 
 -- the trip count of an `scf.while`: of a condition that is a number, or the result of a comparison
-abbrev pub IsTested : Facts → ℕ → Option ℕ → Option Comparison → Turns → Type 0
-IsTested F loop (Some v) test t = t ≡ constant_turns v
-IsTested F loop None (Some test) t = AreComparedTurns loop test.pred (F.expr test.left) (F.expr test.right) t
-IsTested F loop None None t = t ≡ Unknown NotACompare
+abbrev pub IsTested : Facts → ℕ → Option ℕ → Role → Turns → Type 0
+IsTested F loop (Some v) role t = t ≡ constant_turns v
+IsTested F loop None (tested test) t = AreComparedTurns loop test.pred (F.expr test.left) (F.expr test.right) t
+IsTested F loop None _ t = t ≡ Unknown NotACompare
 
 -- the results of a loop from a label on, of which the values from label `from` on are the last arguments
 abbrev pub AreCarried : Facts → List Label → ℕ → ℕ → ℕ → List IrType → Type 0
 AreCarried F conditions loop from label [] = Unit {0}
 AreCarried F conditions loop from label (ty ∷ tys) =
     IsResult (IsProved F conditions (F.turns loop)) (bits_of ty) loop label (F.turns loop) (F.expr from) (F.expr label)
-    × (F.test label ≡ None)
+    × (F.role label ≡ untested)
     × AreCarried F conditions loop (from + 1) (label + 1) tys
 
 -- the same, of which these values are passed
@@ -139,7 +146,7 @@ abbrev pub ArePassedOn : Facts → List Label → ℕ → List Label → ℕ →
 ArePassedOn F conditions loop passed label [] = Unit {0}
 ArePassedOn F conditions loop (y ∷ passed) label (ty ∷ tys) =
     IsResult (IsProved F conditions (F.turns loop)) (bits_of ty) loop label (F.turns loop) (F.expr y.0) (F.expr label)
-    × (F.test label ≡ None)
+    × (F.role label ≡ untested)
     × ArePassedOn F conditions loop passed (label + 1) tys
 ArePassedOn F conditions loop [] label tys = AreOwn F label tys
 
@@ -163,11 +170,12 @@ abbrev mutual
       let loop : Loop = record { at = at; first = at + 2; types = arg_types args; inits = inits; ends = ends } in
       Rounds loop
       (λ G. IsVariable at (bits_of iv.ty) (at + 1) (G.expr lower.0) (G.expr step.0) (G.expr (at + 1))
-      × (G.test (at + 1) ≡ None)
+      × (G.role (at + 1) ≡ untested)
       × IsOps conditions body in_body G)
       round_limit F
       × AreComparedTurns at Slt (F.expr (at + 1)) (F.expr upper.0) (F.turns at)
       × AreCarried F conditions at (at + 2) (in_body + labels_of body) results
+      × (F.role at ≡ counts)
   IsKind conditions (While args inits before passed cond after_args after ends) results at F =
       let in_before = at + 1 + length args in
       let params = in_before + labels_of before in
@@ -178,8 +186,9 @@ abbrev mutual
       × ArePassed G params (arg_types after_args) passed
       × IsOps conditions after in_after G)
       round_limit F
-      × IsTested F at (number_in (F.expr cond.0).p) (F.test cond.0) (F.turns at)
+      × IsTested F at (number_in (F.expr cond.0).p) (F.role cond.0) (F.turns at)
       × ArePassedOn F conditions at passed (in_after + labels_of after) results
+      × (F.role at ≡ counts)
 
 -- the items of a function from number k on
 abbrev pub IsItems : ℕ → ℕ → List OpList → Facts → Type 0

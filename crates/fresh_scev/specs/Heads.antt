@@ -1,7 +1,6 @@
 -- Loops of the program by their heads and their regions.
-use Rattle.std.specs.Prelude.{◌≡◌, ℕ, ◌+◌, Bool, true, false, List, [], length, map, None}
+use Rattle.std.specs.Prelude.{◌≡◌, ℕ, ◌+◌, Bool, true, false, List, [], length, map}
 use Rattle.arith_word.specs.declared.label.Label.{Label}
-use Rattle.mlir_ir.specs.declared.types.Arg.{Arg}
 use Rattle.mlir_ir.specs.declared.types.IrType.{IrType}
 use Rattle.mlir_ir.specs.declared.types.Region.{Region, out-Region}
 use Rattle.mlir_ir.specs.Operations.{OpKind, OpList, nil, If, For, While, labels_of}
@@ -11,7 +10,7 @@ use Rattle.mlir_ir.specs.Words.{bits_of}
 use Rattle.arith_word.specs.declared.op.Pred.TheVariants.{Slt}
 use Rattle.trip_count.specs.declared.answer.Turns.{Turns}
 use Rattle.fresh_scev.specs.Expressions.{expression_of, number, number_in}
-use Rattle.fresh_scev.specs.Facts.{Facts, Loop, AreOwn, AreNext, IsTested, AreCarried, ArePassed, ArePassedOn, IsOps}
+use Rattle.fresh_scev.specs.Facts.{Facts, counts, untested, Loop, AreOwn, AreNext, IsTested, AreCarried, ArePassed, ArePassedOn, IsOps}
 use Rattle.fresh_scev.specs.Insides.{for_loop, while_loop, IsForInside, IsWhileInside}
 use Rattle.fresh_scev.specs.Loops.{IsVariable, AreComparedTurns}
 use Rattle.fresh_scev.specs.NextArguments.{AreGiven, AreBefore}
@@ -81,15 +80,15 @@ pub record CanWalk (t : Table) (n : ℕ) : Type 0 where
   pub known : AreKnown (facts_of t)
   pub conditions : AreBelow t.conditions.items (next_label t)
 
--- the label of a counter has no expression and no comparison
+-- the label of a counter, which has no expression
 abbrev pub IsCounter : Facts → ℕ → Type 0
-IsCounter F label = (F.expr label ≡ number 1 0) × (F.test label ≡ None)
+IsCounter F label = (F.expr label ≡ number 1 0) × (F.role label ≡ counts)
 
 -- the variable of an `scf.for`, with what is known of its arguments
 abbrev pub HasVariable : ForHead → (Facts → Type 0) → Facts → Type 0
 HasVariable h Args F =
     IsVariable h.counter.0 (bits_of h.iv.now.ty) (h.counter.0 + 1) (F.expr h.lower.0) (F.expr h.step.0) (F.expr (h.counter.0 + 1))
-    × (F.test (h.counter.0 + 1) ≡ None)
+    × (F.role (h.counter.0 + 1) ≡ untested)
     × Args F
 
 -- the label of a loop's first argument
@@ -136,7 +135,7 @@ pub record EndsWhile (conditions : List Label) (h : WhileHead) (passed : List La
   pub settled : Table
   pub turns : Turns
   pub settles : Settles u settled h.counter.0 turns
-  pub counted : IsTested (facts_of u) h.counter.0 (number_in ((facts_of u).expr h.cond.0).p) ((facts_of u).test h.cond.0) turns
+  pub counted : IsTested (facts_of u) h.counter.0 (number_in ((facts_of u).expr h.cond.0).p) ((facts_of u).role h.cond.0) turns
   pub carried : Says settled w (length results) (λ F. ArePassedOn F conditions h.counter.0 passed (next_label settled) results)
 
 -- both regions of an `scf.while`, with the tables between

@@ -16,4 +16,6 @@ pub mod LoopResults
 pub mod Heads
 pub mod Answers
 pub mod UnderWay
+pub mod Each
 pub mod Widths
+pub mod Entries

@@ -1,12 +1,11 @@
 -- The facts that the program's tables of facts stand for.
-use Rattle.std.specs.Prelude.{ℕ, zero, ◌≡◌, ◌+◌, ◌<◌, ◌≤◌, ◌==◌, List, [], ◌∷◌, ◌++◌, length, slice_get, slice_index_or, Option, Some, None, if◌then◌else◌}
+use Rattle.std.specs.Prelude.{ℕ, ◌≡◌, ◌+◌, ◌<◌, ◌==◌, List, [], ◌∷◌, ◌++◌, length, slice_get, slice_index_or, Option, Some, None, if◌then◌else◌}
 use Rattle.arith_word.specs.Labels.{label_at, func_of, item_of, index_of, item_count, index_count}
 use Rattle.trip_count.specs.declared.answer.Turns.{Turns}
 use Rattle.trip_count.specs.declared.answer.Turns.TheVariants.{Unknown}
 use Rattle.trip_count.specs.declared.answer.Why.TheVariants.{NotACompare}
 use Rattle.fresh_scev.specs.Expressions.{Expression, expression_of, number, IsBefore}
-use Rattle.fresh_scev.specs.Facts as plain
-use Rattle.fresh_scev.specs.Facts.{Facts}
+use Rattle.fresh_scev.specs.Facts.{Facts, Role, unnamed, counts, untested, tested}
 use Rattle.fresh_scev.specs.SameFacts.{SameFacts, IsTestBelow}
 use Rattle.fresh_scev.specs.declared.fact.Comparison.{Comparison}
 use Rattle.fresh_scev.specs.declared.fact.Fact.{Fact}
@@ -23,22 +22,29 @@ abbrev pub expr_in : Option Fact → Expression
 expr_in (Some (Value e test)) = expression_of e
 expr_in _ = number 1 0
 
-abbrev pub comparison_of : Option Comparison → Option plain.Comparison
-comparison_of (Some c) = Some (record { pred = c.pred; left = c.left.0; right = c.right.0 })
-comparison_of None = None
+-- the role of a value that has this comparison
+abbrev pub role_by : Option Comparison → Role
+role_by (Some c) = tested (record { pred = c.pred; left = c.left.0; right = c.right.0 })
+role_by None = untested
 
-abbrev pub test_in : Option Fact → Option plain.Comparison
-test_in (Some (Value e test)) = comparison_of test
-test_in _ = None
+abbrev pub role_in : Option Fact → Role
+role_in (Some (Value e test)) = role_by test
+role_in (Some (Loop t)) = counts
+role_in None = unnamed
 
 abbrev pub turns_in : Option Fact → Turns
 turns_in (Some (Loop t)) = t
 turns_in _ = Unknown NotACompare
 
+-- the role as far as it is that of a value
+abbrev pub as_value : Role → Role
+as_value (tested test) = tested test
+as_value _ = untested
+
 abbrev pub facts_in : ℕ → List (List Fact) → Facts
 facts_in func items = record {
   expr = λ label. expr_in (fact_at func items label);
-  test = λ label. test_in (fact_at func items label);
+  role = λ label. role_in (fact_at func items label);
   turns = λ label. turns_in (fact_at func items label);
 }
 
@@ -59,7 +65,7 @@ pub record HasRoom (t : Table) (n : ℕ) : Type 0 where
 -- before it
 pub record AreKnown (F : Facts) : Type 0 where
   pub exprs : (label : ℕ) → IsBefore (label + 1) (F.expr label)
-  pub tests : (label : ℕ) → IsTestBelow (F.test label) label
+  pub roles : (label : ℕ) → IsTestBelow (F.role label) label
 
 -- the same but for the facts of the item under way
 pub record IsSameTable (s t : Table) : Type 0 where
@@ -75,7 +81,7 @@ pub record Grows (s t : Table) (n : ℕ) : Type 0 where
   pub known : AreKnown (facts_of t)
 
 -- one further fact, of a value
-pub record Defines (s t : Table) (e : Expression) (test : Option plain.Comparison) : Type 0 where
+pub record Defines (s t : Table) (e : Expression) (role : Role) : Type 0 where
   pub grows : Grows s t 1
   pub expr : (facts_of t).expr (next_label s) ≡ e
-  pub test_is : (facts_of t).test (next_label s) ≡ test
+  pub role_is : (facts_of t).role (next_label s) ≡ role

@@ -1,10 +1,10 @@
 -- What the walk over a function's operations shows of the table of facts.
-use Rattle.std.specs.Prelude.{◌≡◌, ℕ, List, Option, None}
+use Rattle.std.specs.Prelude.{◌≡◌, ℕ, List}
 use Rattle.mlir_ir.specs.Operations.{OpKind, Simple}
 use Rattle.mlir_ir.specs.Typed.{simple_uses}
 use Rattle.mlir_ir.specs.declared.types.IrType.{IrType}
 use Rattle.fresh_scev.specs.Expressions.{Expression, own}
-use Rattle.fresh_scev.specs.Facts.{Comparison, Facts, AreOwn, AreRuled, IsRuled, test_of}
+use Rattle.fresh_scev.specs.Facts.{Facts, Role, untested, AreOwn, AreRuled, IsRuled, role_of}
 use Rattle.fresh_scev.specs.Table.{facts_of, Grows}
 use Rattle.fresh_scev.specs.UsesBelow.{AreBelow}
 use Rattle.fresh_scev.specs.declared.table.Table.{Table}
@@ -19,9 +19,9 @@ abbrev pub SimpleUsesBelow : OpKind → ℕ → Type 0
 SimpleUsesBelow (Simple does) at = AreBelow (simple_uses does) at
 SimpleUsesBelow _ at = Unit {0}
 
-abbrev pub kind_test : OpKind → Option Comparison
-kind_test (Simple does) = test_of does
-kind_test _ = None
+abbrev pub kind_role : OpKind → Role
+kind_role (Simple does) = role_of does
+kind_role _ = untested
 
 abbrev pub AreKindRuled : Facts → ℕ → List IrType → OpKind → Type 0
 AreKindRuled F label tys (Simple does) = AreRuled F label tys does

@@ -2,7 +2,9 @@ ghost use Rattle.std.specs.Prelude.{◌≡◌, [], IfOk};
 ghost use Rattle.mlir_ir.specs.Check.{IsWellFormed};
 ghost use Rattle.mlir_ir.specs.View.{view_items};
 ghost use Rattle.fresh_scev.specs.Answers.{facts_shown};
+ghost use Rattle.fresh_scev.specs.Entries.{HaveCounts, HaveEntries};
 ghost use Rattle.fresh_scev.specs.Facts.{IsFacts, items_in};
+ghost use Rattle.fresh_scev.specs.Table.{AreKnown};
 ghost use Rattle.fresh_scev.specs.UnderWay.{HasFirstItems};
 ghost use Rattle.fresh_scev.specs.Widths.{HaveWidths};
 
@@ -36,12 +38,15 @@ fn arguments_table(alloc: Global, f: &Func) -> Result<Table, AllocError>
     Ok(t)
 }
 
-/// The facts of a function: the expressions of all its values, each with the width of the value's
-/// type, and the trip counts of all its loops.
+/// The facts of a function: the expressions of all its values, each within the limits and with the
+/// width of the value's type, and the trip counts of all its loops.
 pub fn analyse(alloc: Global, f: &Func) -> Result<Facts, AllocError>
     requires { IsWellFormed f.now }
     ensures facts { IfOk result (λ facts. IsFacts f.now (facts_shown facts)) }
     ensures widths { IfOk result (λ facts. HaveWidths f.now (facts_shown facts)) }
+    ensures known { IfOk result (λ facts. AreKnown (facts_shown facts)) }
+    ensures values { IfOk result (λ facts. HaveEntries f.now facts) }
+    ensures loops { IfOk result (λ facts. HaveCounts f.now facts) }
 {
     let mut t = arguments_table(alloc, f)?;
     for item in items_of(f) {

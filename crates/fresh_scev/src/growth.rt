@@ -1,7 +1,7 @@
 ghost use Rattle.std.specs.Prelude.{◌≡◌, ◌+◌, OnOk};
 ghost use Rattle.fresh_scev.specs.Expressions.{expression_of, IsBefore};
 ghost use Rattle.fresh_scev.specs.SameFacts.{IsTestBelow};
-ghost use Rattle.fresh_scev.specs.Table.{facts_of, next_label, comparison_of, AreKnown, Defines, HasRoom};
+ghost use Rattle.fresh_scev.specs.Table.{facts_of, next_label, role_by, AreKnown, Defines, HasRoom};
 
 use crate::fact::{Comparison, Fact};
 use crate::table::Table;
@@ -14,8 +14,8 @@ pub(crate) fn define(t: &mut Table, expr: Expr, test: Option<Comparison>) -> Res
     requires room { HasRoom t.old 1 }
     requires known { AreKnown (facts_of t.old) }
     requires before { IsBefore (next_label t.old + 1) (expression_of expr) }
-    requires below { IsTestBelow (comparison_of test) (next_label t.old) }
-    ensures { OnOk result (Defines t.old t.new (expression_of expr) (comparison_of test)) }
+    requires below { IsTestBelow (role_by test) (next_label t.old) }
+    ensures { OnOk result (Defines t.old t.new (expression_of expr) (role_by test)) }
 {
     t.push(Fact::Value(expr, test))
 }

@@ -4,7 +4,7 @@ ghost use Rattle.trip_count.specs.declared.answer.Turns.TheVariants.{Unknown};
 ghost use Rattle.trip_count.specs.declared.answer.Why.TheVariants.{NotACompare};
 ghost use Rattle.fresh_scev.specs.Expressions.{expression_of, number};
 ghost use Rattle.fresh_scev.specs.Sealed.{Seals};
-ghost use Rattle.fresh_scev.specs.Table.{fact_at, facts_of, next_label, HasRoom, IsSameTable, comparison_of};
+ghost use Rattle.fresh_scev.specs.Table.{fact_at, facts_of, next_label, HasRoom, IsSameTable, as_value, role_by};
 
 use crate::fact::{Comparison, Fact};
 use crate::table::Table;
@@ -86,9 +86,9 @@ impl Table {
         }
     }
 
-    /// The comparison whose result the value is.
+    /// The comparison whose result the value is; `None` for any other label.
     pub(crate) fn test(&self, label: Label) -> Option<Comparison>
-        ensures { comparison_of result ≡ (facts_of self.now).test label.0 }
+        ensures { role_by result ≡ as_value ((facts_of self.now).role label.0) }
     {
         match self.fact(label) {
             Some(Fact::Value(_, test)) => *test,

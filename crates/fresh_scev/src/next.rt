@@ -10,7 +10,6 @@ use crate::arguments::next_argument;
 use crate::defined::{Defined, own_symbol};
 use crate::lookup::zero;
 use crate::operands::copied;
-use crate::simple::width_of;
 use crate::table::Table;
 use arith_word::Label;
 use mlir_ir::IrType;
@@ -93,7 +92,7 @@ fn add_next(
         return Ok(false);
     };
     let d = Defined {
-        w: width_of(*ty),
+        w: ty.width(),
         label: h.first,
     };
     let later = Header {

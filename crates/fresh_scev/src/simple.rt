@@ -3,8 +3,8 @@ ghost use Rattle.mlir_ir.specs.View.{view_kind};
 ghost use Rattle.mlir_ir.specs.Words.{bits_of};
 ghost use Rattle.fresh_scev.specs.Expressions.{expression_of, IsBefore};
 ghost use Rattle.fresh_scev.specs.Rules as rules;
-ghost use Rattle.fresh_scev.specs.Table.{facts_of, next_label, comparison_of, AreKnown, HasRoom};
-ghost use Rattle.fresh_scev.specs.Walked.{IsKindRuled, AreKindRuled, SimpleUsesBelow, kind_test, Says};
+ghost use Rattle.fresh_scev.specs.Table.{facts_of, next_label, role_by, AreKnown, HasRoom};
+ghost use Rattle.fresh_scev.specs.Walked.{IsKindRuled, AreKindRuled, SimpleUsesBelow, kind_role, Says};
 
 use crate::defined::{Defined, number_expr, own_symbol};
 use crate::fact::Comparison;
@@ -17,16 +17,6 @@ use mlir_ir::{IrType, Kind};
 use scev_tree::Expr;
 use std::alloc::AllocError;
 
-/// The width of a type in bits.
-pub(crate) fn width_of(ty: IrType) -> Width
-    ensures { result ≡ bits_of ty }
-{
-    match ty {
-        IrType::Int(width) => width,
-        IrType::Index => Width::new(64).unwrap(),
-    }
-}
-
 /// The value that comes next.
 pub(crate) fn defined_next(t: &Table, ty: IrType) -> Defined
     requires { HasRoom t.now 1 }
@@ -34,7 +24,7 @@ pub(crate) fn defined_next(t: &Table, ty: IrType) -> Defined
     ensures label { result.label.0 ≡ next_label t.now }
 {
     Defined {
-        w: width_of(ty),
+        w: ty.width(),
         label: t.next(),
     }
 }
@@ -112,7 +102,7 @@ fn rule_expr(t: &Table, d: Defined, kind: &Kind) -> Result<Expr, AllocError>
 
 /// The comparison that an operation is.
 fn test_of(kind: &Kind) -> Option<Comparison>
-    ensures { comparison_of result ≡ kind_test (view_kind kind.now) }
+    ensures { role_by result ≡ kind_role (view_kind kind.now) }
 {
     match kind {
         Kind::Cmp(pred, left, right) => Some(Comparison {

@@ -1,5 +1,6 @@
-ghost use Rattle.std.specs.Prelude.{◌≡◌, ◌+◌, ◌<◌, OnOk, None};
+ghost use Rattle.std.specs.Prelude.{◌≡◌, ◌+◌, ◌<◌, OnOk};
 ghost use Rattle.mlir_ir.specs.Words.{bits_of};
+ghost use Rattle.fresh_scev.specs.Facts.{untested};
 ghost use Rattle.fresh_scev.specs.Loops.{IsVariable};
 ghost use Rattle.fresh_scev.specs.Table.{facts_of, next_label, AreKnown, HasRoom};
 ghost use Rattle.fresh_scev.specs.Walked.{Says};
@@ -29,7 +30,7 @@ pub(crate) fn define_variable(
     requires step { step.0 < counter.0 }
     ensures { OnOk result (Says t.old t.new 1 (λ F. IsVariable counter.0 (bits_of ty)
         (next_label t.old) (F.expr lower.0) (F.expr step.0) (F.expr (next_label t.old))
-        × (F.test (next_label t.old) ≡ None))) }
+        × (F.role (next_label t.old) ≡ untested))) }
 {
     let d = defined_next(t, ty);
     let zero = zero();

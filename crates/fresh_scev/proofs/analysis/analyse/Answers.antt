@@ -3,11 +3,11 @@ use Rattle.mlir_ir.specs.Operations.{labels_of}
 use Rattle.mlir_ir.specs.View.{view_ops}
 use Rattle.fresh_scev.specs.Facts.{IsOps}
 use Rattle.fresh_scev.specs.Heads.{CanWalk}
-use Rattle.fresh_scev.specs.Table.{facts_in, next_label}
+use Rattle.fresh_scev.specs.Table.{next_label}
 use Rattle.fresh_scev.specs.UsesBelow.{DoUseBelow}
 use Rattle.fresh_scev.specs.Walked.{Says}
-use Rattle.fresh_scev.proofs.ValueWidths.{values_wide}
-use Rattle.fresh_scev.proofs.WalkedItems.{item_walks, item_uses, item_more, has_facts}
+use Rattle.fresh_scev.proofs.EntriesOfFacts.{value_widths, value_entries, count_entries}
+use Rattle.fresh_scev.proofs.WalkedItems.{item_walks, item_uses, item_more, has_facts, has_known}
 use Rattle.fresh_scev.proofs.analysis.analyse.Goals as goal
 
 pub walk_ops-requires-clause-ready : goal.walk_ops-requires-clause-ready
@@ -38,4 +38,19 @@ pub returns-clause-widths : goal.returns-clause-widths
 returns-clause-widths c =
     let l = c.loop-item in
     let facts = has_facts c.args.f.now c.requires c.items_of-item-items.result.now c.items_of-item-items.ensures l.t l.item-index (omega arith) l.invariant in
-    values_wide (facts_in l.t.func l.t.items) c.args.f.now c.requires facts
+    value_widths c.args.f.now (record { func = l.t.func; items = l.t.items }) c.requires facts
+
+pub returns-clause-known : goal.returns-clause-known
+returns-clause-known c = let l = c.loop-item in has_known c.args.f.now c.requires _ l.t l.invariant
+
+pub returns-clause-values : goal.returns-clause-values
+returns-clause-values c =
+    let l = c.loop-item in
+    let facts = has_facts c.args.f.now c.requires c.items_of-item-items.result.now c.items_of-item-items.ensures l.t l.item-index (omega arith) l.invariant in
+    value_entries c.args.f.now (record { func = l.t.func; items = l.t.items }) c.requires facts
+
+pub returns-clause-loops : goal.returns-clause-loops
+returns-clause-loops c =
+    let l = c.loop-item in
+    let facts = has_facts c.args.f.now c.requires c.items_of-item-items.result.now c.items_of-item-items.ensures l.t l.item-index (omega arith) l.invariant in
+    count_entries c.args.f.now (record { func = l.t.func; items = l.t.items }) c.requires facts

@@ -11,10 +11,10 @@ returns-then-changed t c =
     let counter = c.args.h.counter.0 in
     let first = c.args.h.first.0 in
     let one = c.in_ok-expr-in-Some-Some.field-0 in
-    solved_added counter (facts_of c.args.t.now) first c.width_of.result c.args.types.now c.in-Some.rest.now c.in-Some.ty.now c.args.inits.now c.in-Some-Some.inits.now
+    solved_added counter (facts_of c.args.t.now) first c.width.result c.args.types.now c.in-Some.rest.now c.in-Some.ty.now c.args.inits.now c.in-Some-Some.inits.now
     c.args.ends.now c.in-Some-Some.ends.now c.in-Some-Some.init.now c.in-Some-Some.end.now c.args.out.now.items c.push.new.self.items c.add_next.new.out.items one.expr
     c.in_ok-others-in-Some-Some.others one.changed
-    (search rules) (search rules) (search rules) c.width_of.ensures (search rules) (search rules) (search rules) (search rules) c.in_ok-others-in-Some-Some.ensures
+    (search rules) (search rules) (search rules) c.width.ensures (search rules) (search rules) (search rules) (search rules) c.in_ok-others-in-Some-Some.ensures
 
 pub returns-in_ok-push-in_default-2 : goal.returns-in_ok-push-in_default-2
 returns-in_ok-push-in_default-2 t c =
@@ -32,7 +32,7 @@ returns-in_ok-push-in_default-2 t c =
     ] in
     IfOk-weaker c.add_next-in_default-2.result (λ changed. AddsNext counter F (first + 1) rest inits ends pushed items changed)
     (λ changed. AddsNext counter F first c.args.types.now inits ends c.args.out.now.items items changed)
-    (λ changed more. own_added counter F first c.width_of.result c.args.types.now rest c.in-Some.ty.now inits ends c.args.out.now.items pushed items
-    c.in_ok-own_symbol-in_default-2.field-0 changed (search rules) ended c.width_of.ensures c.in_ok-own_symbol-in_default-2.ensures.own
+    (λ changed more. own_added counter F first c.width.result c.args.types.now rest c.in-Some.ty.now inits ends c.args.out.now.items pushed items
+    c.in_ok-own_symbol-in_default-2.field-0 changed (search rules) ended c.width.ensures c.in_ok-own_symbol-in_default-2.ensures.own
     c.in_ok-own_symbol-in_default-2.ensures.before (search rules) more)
     c.add_next-in_default-2.ensures

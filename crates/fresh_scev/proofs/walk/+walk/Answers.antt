@@ -236,7 +236,7 @@ pub walk_for-end_for-requires-clause-conditions : goal.walk_for-end_for-requires
 walk_for-end_for-requires-clause-conditions t c = (for_end c.args.t.now c.for_head-h.result (out-ForParts c.args.parts.now).body c.args.results.now (ap (λ (l : Label). l.0) c.for_head-h.ensures.counter ∙ c.next.ensures) (kind_can c.args.t.now c.args.results.now (view_for c.args.parts.now) (for_of c.for_head-h.result (out-ForParts c.args.parts.now).body) (sym c.for_head-h.ensures.parts) c.requires.ready) (subst (λ k. DoesUseBelow k (next_label c.args.t.now)) (sym c.for_head-h.ensures.parts) c.requires.uses) c.open_loop.new.t c.in_ok-open_loop.ensures.grows c.walk_for_rounds.new.t c.in_ok-walk_for_rounds.ensures).conditions
 
 pub walk_for-returns : goal.walk_for-returns
-walk_for-returns t c = kind_as c.args.t.now c.end_for.new.t c.args.results.now (view_for c.args.parts.now) (for_of c.for_head-h.result (out-ForParts c.args.parts.now).body) (sym c.for_head-h.ensures.parts) (for_said c.args.t.now c.for_head-h.result (out-ForParts c.args.parts.now).body c.args.results.now (ap (λ (l : Label). l.0) c.for_head-h.ensures.counter ∙ c.next.ensures) (kind_can c.args.t.now c.args.results.now (view_for c.args.parts.now) (for_of c.for_head-h.result (out-ForParts c.args.parts.now).body) (sym c.for_head-h.ensures.parts) c.requires.ready) (subst (λ k. DoesUseBelow k (next_label c.args.t.now)) (sym c.for_head-h.ensures.parts) c.requires.uses) c.open_loop.new.t c.in_ok-open_loop.ensures.grows c.walk_for_rounds.new.t c.in_ok-walk_for_rounds.ensures c.end_for.new.t c.in_ok-end_for.ensures)
+walk_for-returns t c = kind_as c.args.t.now c.end_for.new.t c.args.results.now (view_for c.args.parts.now) (for_of c.for_head-h.result (out-ForParts c.args.parts.now).body) (sym c.for_head-h.ensures.parts) (for_said c.args.t.now c.for_head-h.result (out-ForParts c.args.parts.now).body c.args.results.now (ap (λ (l : Label). l.0) c.for_head-h.ensures.counter ∙ c.next.ensures) (kind_can c.args.t.now c.args.results.now (view_for c.args.parts.now) (for_of c.for_head-h.result (out-ForParts c.args.parts.now).body) (sym c.for_head-h.ensures.parts) c.requires.ready) (subst (λ k. DoesUseBelow k (next_label c.args.t.now)) (sym c.for_head-h.ensures.parts) c.requires.uses) c.open_loop.new.t c.in_ok-open_loop.ensures.grows c.walk_for_rounds.new.t c.in_ok-walk_for_rounds.ensures c.end_for.new.t c.in_ok-open_loop.ensures.counter c.in_ok-end_for.ensures)
 
 pub walk_while-next-requires : goal.walk_while-next-requires
 walk_while-next-requires t c = room_less c.args.t.now (inner_labels (view_while c.args.parts.now) + length c.args.results.now) 0 (omega arith) c.requires.ready.room
@@ -278,7 +278,7 @@ pub walk_while-end_while-requires-clause-conditions : goal.walk_while-end_while-
 walk_while-end_while-requires-clause-conditions t c = (while_end c.args.t.now c.while_head-h.result (out-WhileParts c.args.parts.now).before (out-WhileParts c.args.parts.now).after c.args.results.now (ap (λ (l : Label). l.0) c.while_head-h.ensures.counter ∙ c.next.ensures) (kind_can c.args.t.now c.args.results.now (view_while c.args.parts.now) (while_of c.while_head-h.result (out-WhileParts c.args.parts.now).before (out-WhileParts c.args.parts.now).after) (sym c.while_head-h.ensures.parts) c.requires.ready) (subst (λ k. DoesUseBelow k (next_label c.args.t.now)) (sym c.while_head-h.ensures.parts) c.requires.uses) c.open_loop.new.t c.in_ok-open_loop.ensures.grows c.walk_while_rounds.new.t c.in_ok-walk_while_rounds.ensures).conditions
 
 pub walk_while-returns : goal.walk_while-returns
-walk_while-returns t c = kind_as c.args.t.now c.end_while.new.t c.args.results.now (view_while c.args.parts.now) (while_of c.while_head-h.result (out-WhileParts c.args.parts.now).before (out-WhileParts c.args.parts.now).after) (sym c.while_head-h.ensures.parts) (while_said c.args.t.now c.while_head-h.result (out-WhileParts c.args.parts.now).before (out-WhileParts c.args.parts.now).after c.args.results.now (ap (λ (l : Label). l.0) c.while_head-h.ensures.counter ∙ c.next.ensures) (kind_can c.args.t.now c.args.results.now (view_while c.args.parts.now) (while_of c.while_head-h.result (out-WhileParts c.args.parts.now).before (out-WhileParts c.args.parts.now).after) (sym c.while_head-h.ensures.parts) c.requires.ready) (subst (λ k. DoesUseBelow k (next_label c.args.t.now)) (sym c.while_head-h.ensures.parts) c.requires.uses) c.open_loop.new.t c.in_ok-open_loop.ensures.grows c.walk_while_rounds.new.t c.in_ok-walk_while_rounds.ensures c.end_while.new.t c.as_slice.result.now c.as_slice.ensures c.in_ok-end_while.ensures)
+walk_while-returns t c = kind_as c.args.t.now c.end_while.new.t c.args.results.now (view_while c.args.parts.now) (while_of c.while_head-h.result (out-WhileParts c.args.parts.now).before (out-WhileParts c.args.parts.now).after) (sym c.while_head-h.ensures.parts) (while_said c.args.t.now c.while_head-h.result (out-WhileParts c.args.parts.now).before (out-WhileParts c.args.parts.now).after c.args.results.now (ap (λ (l : Label). l.0) c.while_head-h.ensures.counter ∙ c.next.ensures) (kind_can c.args.t.now c.args.results.now (view_while c.args.parts.now) (while_of c.while_head-h.result (out-WhileParts c.args.parts.now).before (out-WhileParts c.args.parts.now).after) (sym c.while_head-h.ensures.parts) c.requires.ready) (subst (λ k. DoesUseBelow k (next_label c.args.t.now)) (sym c.while_head-h.ensures.parts) c.requires.uses) c.open_loop.new.t c.in_ok-open_loop.ensures.grows c.walk_while_rounds.new.t c.in_ok-walk_while_rounds.ensures c.end_while.new.t c.as_slice.result.now c.as_slice.ensures c.in_ok-open_loop.ensures.counter c.in_ok-end_while.ensures)
 
 pub walk_for_rounds-begin_for-requires-clause-room : goal.walk_for_rounds-begin_for-requires-clause-room
 walk_for_rounds-begin_for-requires-clause-room t c = round_room c.args.t.now c.args.h.now c.args.body.now c.requires.ready c.requires.place c.requires.uses

@@ -2,7 +2,7 @@ use Rattle.std.proofs.Common.{◌≡◌, ◌+◌, ◌*◌, length, take}
 use Rattle.mlir_ir.specs.Operations.{count_of, inner_count}
 use Rattle.mlir_ir.specs.View.{view_kind, view_ops, view_for, view_while}
 use Rattle.fresh_scev.specs.Facts.{Rounds}
-use Rattle.fresh_scev.specs.Heads.{InsideFor, InsideWhile, branches_of, for_inside_labels, for_of, loop_of_for, loop_of_while, rows_of, then_of, while_inside_labels, while_of}
+use Rattle.fresh_scev.specs.Heads.{InsideFor, InsideWhile, for_inside_labels, loop_of_for, loop_of_while, rows_of, while_inside_labels}
 use Rattle.fresh_scev.specs.Walked.{Says}
 use Rattle.fresh_scev.proofs.WalkSteps.{SaysOps}
 use Rattle.fresh_scev.proofs.walk.+walk.Given as goal
