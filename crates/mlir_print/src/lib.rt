@@ -17,3 +17,4 @@ mod uses;
 mod words;
 
 pub use functions::{print, print_func};
+pub use naming::{Names, Slot};

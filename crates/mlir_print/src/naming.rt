@@ -2,7 +2,7 @@ ghost use Rattle.std.specs.Prelude.{◌≡◌, [], ◌∷◌, map, None, MatchOp
 ghost use Rattle.mlir_ir.specs.Canonical.{naming_of};
 ghost use Rattle.mlir_ir.specs.Check.{IsWellFormed};
 ghost use Rattle.mlir_ir.specs.Values.{value_at};
-ghost use Rattle.mlir_print.specs.Slots.{slot_value, items_of, AreItems};
+ghost use Rattle.mlir_print.specs.Slots.{slot_value, rows_values, items_of, AreItems, AreWithin};
 
 use crate::filling::{add_args, add_ops};
 use arith_word::{Label, List};
@@ -12,7 +12,7 @@ use std::marker::Model;
 
 /// What a label stands for.
 #[derive(Drop)]
-pub(crate) enum Slot<'a> {
+pub enum Slot<'a> {
     /// No value, as the counter of a loop.
     Empty,
     Argument(&'a Arg),
@@ -22,7 +22,7 @@ pub(crate) enum Slot<'a> {
 
 /// The values of a function by their labels, and the functions of its module.
 #[derive(Drop)]
-pub(crate) struct Names<'a> {
+pub struct Names<'a> {
     func: u8,
     rows: Vec<List<Slot<'a>>>,
     funcs: &'a [Func],
@@ -84,11 +84,7 @@ fn add_body<'a>(
 
 impl<'a> Names<'a> {
     /// The names of the values of a function among those of its module.
-    pub(crate) fn new(
-        alloc: Global,
-        funcs: &'a [Func],
-        func: &'a Func,
-    ) -> Result<Names<'a>, AllocError>
+    pub fn new(alloc: Global, funcs: &'a [Func], func: &'a Func) -> Result<Names<'a>, AllocError>
         requires { IsWellFormed func.now }
         ensures { IfOk result (λ names. names ≡ naming_of (map (λ f. f.name) funcs.now) func.now) }
     {
@@ -111,9 +107,19 @@ impl<'a> Names<'a> {
         self.funcs
     }
 
+    /// The number of the function and what its labels stand for in their order: a row for its
+    /// arguments, and behind it one for each item.
+    pub fn rows(&self) -> (u8, &[List<Slot<'a>>])
+        ensures values { rows_values result.0 0 result.1.now ≡ self.now.values }
+        ensures within { AreWithin result.1.now }
+    {
+        (self.func, self.rows.as_slice())
+    }
+
     /// What the label stands for; `None` where it is no label of the function.
-    pub(crate) fn slot(&self, label: Label) -> Option<&Slot<'a>>
-        ensures { MatchOption result (value_at self.now.values label.0 ≡ None) (λ slot. value_at self.now.values label.0 ≡ slot_value label.0 slot.now) }
+    pub fn slot(&self, label: Label) -> Option<&Slot<'a>>
+        ensures { MatchOption result (value_at self.now.values label.0 ≡ None)
+            (λ slot. value_at self.now.values label.0 ≡ slot_value label.0 slot.now) }
     {
         if label.func() != self.func {
             return None;
