@@ -1,0 +1,3 @@
+pub mod ModuleEnds
+pub mod Refusals
+pub mod OneInput
