@@ -1,0 +1,5 @@
+pub mod Holding
+pub mod Agreement
+pub mod Arguments
+pub mod Numbering
+pub mod Counted
