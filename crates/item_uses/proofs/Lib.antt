@@ -1,0 +1,7 @@
+mod RegionUses
+mod Marking
+mod UsedBack
+mod FoundUses
+mod AffectedChains
+mod UsedChains
+mod UsesGoBack
