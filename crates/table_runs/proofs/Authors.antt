@@ -16,6 +16,9 @@ has_author a (x ∷ xs) h = omega arith
 pub is_64 : IsSize 64
 is_64 = record { power = (6, refl); least = omega arith; greatest = omega arith }
 
+pub is_65536 : IsSize 65536
+is_65536 = record { power = (16, refl); least = omega arith; greatest = omega arith }
+
 -- the last pass, and those before it
 pub last_of : (table : TableId) (sizes : Sizes) (all front : List Known) (p : Known) → all ≡ front ++ p ∷ [] → AreAllOf table sizes all → IsPassOf table sizes p
 last_of table sizes all front p is each =

@@ -1,9 +1,11 @@
-//! Tests of the shared table: sixteen threads on one table, events that are replayed, and expressions
-//! that are interned.
+//! Tests of the shared table: sixteen threads on one table, events that are replayed, expressions
+//! that are interned, and memos.
 #![tactic(auto)]
 
 #[cfg(test)]
 mod expressions;
+#[cfg(test)]
+mod memos;
 #[cfg(test)]
 mod plain;
 #[cfg(test)]
@@ -12,3 +14,5 @@ mod session;
 mod single;
 #[cfg(test)]
 mod tests;
+#[cfg(test)]
+mod threads;

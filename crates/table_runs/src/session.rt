@@ -19,6 +19,8 @@ pub struct Session<'a> {
     /// The numbers that were put, each with its cell, or `u32::MAX` where all cells were full.
     pub homes: Vec<(u64, u32)>,
     pub full: bool,
+    /// Whether no answer was wrong so far.
+    pub exact: bool,
     pub ghost mine: { IsPassOf shared.now.table.shared.table_id shared.now.sizes pass },
 }
 
@@ -106,6 +108,7 @@ pub fn sessions_of<'a>(
             places: Vec::new(alloc),
             homes: Vec::new(alloc),
             full: false,
+            exact: true,
         })?;
     }
     Ok(sessions)
