@@ -1,10 +1,8 @@
-pub mod Input
-pub mod Guess
-pub mod Scope
-pub mod Reading
-pub mod Printed
-pub mod Expressions
+pub mod Walk
+pub mod Equal
+pub mod Members
 pub mod Output
-pub mod Plain
+pub mod Shown
+pub mod Options
 pub mod Reply
 pub mod Serving

@@ -1,59 +1,40 @@
--- The output of an input: for each session its line and the lines of its commands, then the section of the log and the section of equal names.
-use Rattle.std.specs.Prelude.{◌≡◌, ℕ, ◌+◌, ◌-◌, ◌==◌, ◌&&◌, List, [], ◌∷◌, ◌++◌, codes, filter, Option, None, Some, nat_lt, slice_get, if◌then◌else◌}
-use Rattle.std.specs.Option.{option_and_then, option_map_or}
-use Rattle.std.specs.Str.{bytes_eq}
-use Rattle.linear_scev.specs.Fresh.{fresh}
-use Rattle.mlir_ir.specs.Values.{Value, func_values}
+-- The output of a module and its scripts: a part for each session, then the section of the log, then the section of equal names.
+use Rattle.std.specs.Prelude.{ℕ, ◌≡◌, List, [], ◌∷◌, ◌++◌, Some, codes, length, map, slice_get}
 use Rattle.mlir_ir.specs.declared.types.Func.{Func}
-use Rattle.scev_server.specs.Expressions.{expr_text}
-use Rattle.scev_server.specs.declared.input.Command.{Command}
-use Rattle.scev_server.specs.declared.input.Command.TheVariants.{Scev}
-use Rattle.scev_server.specs.declared.input.Input.{Input}
-use Rattle.scev_server.specs.declared.input.Script.{Script}
-use Rattle.scev_server.specs.declared.input.ValueName.{ValueName}
+use Rattle.scev_script.specs.declared.script.Script.{Script}
+use Rattle.scev_server.specs.Walk.{State, Held, start, IsWalk}
+use Rattle.scev_server.specs.Equal.{Named, IsEqualSection}
 
--- the definitions of a name, in the order of their labels
-abbrev pub definitions_of : List Value → List ℕ → List Value
-definitions_of values name = filter (λ v. bytes_eq v.name name && v.place == 0) values
+-- what a session came to: its lines, and the end of its walk
+pub record End : Type 0 where
+  pub lines : List ℕ
+  pub state : State
 
--- the label of a result of a pack
-abbrev pub label_of_result : ℕ → Value → Option ℕ
-label_of_result result v = if nat_lt result v.count then Some (v.label + result) else None
+-- the sessions came to these ends
+pub record HaveRun (funcs : List Func) (scripts : List Script) (ends : List End) : Type 0 where
+  pub each : length ends ≡ length scripts
+  pub walks : (i : ℕ) (script : Script) (e : End) → slice_get scripts i ≡ Some script → slice_get ends i ≡ Some e
+      → IsWalk funcs start script.commands e.lines e.state
 
--- the label of the value that a command names
-abbrev pub label_named : List Value → ValueName → Option ℕ
-label_named values named =
-    if named.nth == 0
-    then None
-    else option_and_then (label_of_result named.result) (slice_get (definitions_of values named.name) (named.nth - 1))
+abbrev pub parts_text : List Script → List End → List ℕ
+parts_text (script ∷ scripts) (e ∷ ends) = codes "== session " ++ script.name ++ 10 ∷ e.lines ++ parts_text scripts ends
+parts_text _ _ = []
 
--- the expression of a value of the function
-abbrev pub scev_line : Func → ValueName → List ℕ
-scev_line f named =
-    option_map_or (λ label. option_map_or (expr_text (func_values f)) (fresh f label) []) (label_named (func_values f) named) (codes "no value")
+abbrev pub named_in : List ℕ → List Held → List Named
+named_in session held = map (λ h. record { session = session; name = h.name; expr = h.expr }) held
 
--- the line that answers a command
-abbrev pub Answers : Func → Command → List ℕ → Type 0
-Answers f (Scev func named) line = line ≡ (if bytes_eq func f.name then scev_line f named else codes "no func")
+-- the held names, in the order of the sessions
+abbrev pub all_held : List Script → List End → List Named
+all_held (script ∷ scripts) (e ∷ ends) = named_in script.name e.state.held ++ all_held scripts ends
+all_held _ _ = []
 
--- a session's walk over its commands gives these lines, each with its LF
-abbrev pub IsWalk : Func → List Command → List ℕ → Type 0
-IsWalk f [] text = text ≡ []
-IsWalk f (command ∷ commands) text = (line : List ℕ) × (rest : List ℕ) × Answers f command line × IsWalk f commands rest × (text ≡ line ++ 10 ∷ rest)
-
--- the parts of the sessions, in order
-abbrev pub AreParts : Func → List Script → List ℕ → Type 0
-AreParts f [] text = text ≡ []
-AreParts f (script ∷ scripts) text =
-    (lines : List ℕ) × (rest : List ℕ) × IsWalk f script.commands lines × AreParts f scripts rest × (text ≡ codes "== session " ++ script.name ++ 10 ∷ lines ++ rest)
-
--- the log of published versions, of which there are none yet
+-- the section of the log, of which no version is published
 abbrev pub log_section : List ℕ
-log_section = codes "== log" ++ 10 ∷ []
+log_section = codes "== log\n"
 
--- the classes of held names, of which there are none yet
-abbrev pub equal_section : List ℕ
-equal_section = codes "== equal" ++ 10 ∷ []
-
-unfoldable pub Output : Input → List ℕ → Type 0
-Output input text = (parts : List ℕ) × AreParts input.func input.sessions parts × (text ≡ parts ++ log_section ++ equal_section)
+pub record IsOutput (funcs : List Func) (scripts : List Script) (text : List ℕ) : Type 0 where
+  pub ends : List End
+  pub run : HaveRun funcs scripts ends
+  pub equal : List ℕ
+  pub equal_is : IsEqualSection (all_held scripts ends) equal
+  pub text_is : text ≡ parts_text scripts ends ++ log_section ++ equal

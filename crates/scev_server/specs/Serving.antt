@@ -1,8 +1,10 @@
 -- How a call of the server ends.
-use Rattle.std.specs.Prelude.{ℕ, ◌≡◌, ◌≤◌, ◌<◌, List, length, Option}
+use Rattle.std.specs.Prelude.{ℕ, ◌≡◌, ◌+◌, ◌≤◌, ◌<◌, List, length, Option}
 use Rattle.scev_io.specs.Bytes.{before_giving, IsSpent}
-use Rattle.scev_server.specs.Reply.{IsInput, IsNoInput, input_limit}
-use Rattle.scev_server.specs.declared.input.Input.{Input}
+use Rattle.mlir_ir.specs.declared.module.Module.{Module}
+use Rattle.scev_input.specs.Inputs.{IsInput}
+use Rattle.scev_script.specs.declared.script.Script.{Script}
+use Rattle.scev_server.specs.Reply.{IsNoInput, input_limit}
 use Rattle.scev_server.specs.declared.status.Status.{Status}
 use Rattle.scev_server.specs.declared.status.Status.TheVariants.{Done, BadWords, ReadFault, BadInput, WriteFault, NoMemory, TooLong}
 
@@ -35,10 +37,14 @@ pub record ReadToEnd (start left : Option (List ℕ)) (bytes : List ℕ) : Type 
 -- the status that bytes call for where no words are given and no fault comes: they are an input,
 -- or they are none, or they are too long, and memory may always run out
 abbrev pub CallsFor : List ℕ → Status → Type 0
-CallsFor bytes Done = (length bytes ≤ input_limit) × (input : Input) × IsInput input bytes
+CallsFor bytes Done = (length bytes ≤ input_limit) × (base : Module) × (scripts : List Script) × IsInput bytes base scripts
 CallsFor bytes BadInput = (length bytes ≤ input_limit) × IsNoInput bytes
 CallsFor bytes TooLong = input_limit < length bytes
 CallsFor bytes NoMemory = Unit {0}
 CallsFor bytes BadWords = ⊥
 CallsFor bytes ReadFault = ⊥
 CallsFor bytes WriteFault = ⊥
+
+-- at most that many bytes were taken
+abbrev pub HasTaken : ℕ → Option (List ℕ) → Option (List ℕ) → Type 0
+HasTaken most start left = (read : List ℕ) × (length read ≤ most) × (start ≡ before_giving read left)

@@ -1,18 +1,18 @@
 //! The server's top call: an input is read from a source, and its answer is written to a sink.
 #![tactic(auto)]
 
-mod expression;
+mod equal;
 mod gate;
-mod input;
-mod names;
+mod laws;
 mod reply;
 mod serving;
-mod session;
-mod small;
+mod sessions;
+mod state;
 mod status;
+mod steps;
 
 pub use gate::{Gate, OpenGate};
-pub use input::{Command, Input, Script, ValueName};
+pub use laws::one_output;
 pub use scev_io::{
     Failed, MemSink, MemSource, ReadEnd, Sink, Source, StdSink, StdSource, read_all, write_all,
 };

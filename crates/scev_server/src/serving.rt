@@ -1,8 +1,9 @@
-ghost use Rattle.std.specs.Prelude.{◌≡◌, ◌≢◌, ℕ, ◌+◌, ◌<◌, ◌≤◌, ◌↔◌, List, Bool, length, take, IfSome};
+ghost use Rattle.std.specs.Prelude.{◌≡◌, ◌≢◌, ℕ, ◌+◌, ◌<◌, ◌≤◌, ◌↔◌, List, Bool, Option, None, length, map, take, string_bytes, IfSome};
 ghost use Rattle.scev_io.specs.Bytes.{before_giving, after_putting};
 ghost use Rattle.scev_io.specs.Faults.{Rose};
 ghost use Rattle.scev_server.specs.Reply.{input_limit, IsReply, IsAnswer, IsRefusal};
-ghost use Rattle.scev_server.specs.Serving.{ReadToEnd, IsSilent, CallsFor};
+ghost use Rattle.scev_server.specs.Options.{options_of};
+ghost use Rattle.scev_server.specs.Serving.{ReadToEnd, HasTaken, IsSilent, CallsFor};
 
 use crate::gate::Gate;
 use crate::reply::reply_to;
@@ -16,7 +17,7 @@ const INPUT_LIMIT: u32 = 4_194_304;
 
 /// Answers the input that the source gives, and says how that ended. `words` are the program's
 /// arguments without its name; none are taken.
-pub fn serve<R: Threads, S: Source, K: Sink, G: Gate + Sync>(
+pub fn serve<R: Threads + Sync, S: Source, K: Sink, G: Gate + Sync>(
     rt: &R,
     alloc: Global,
     words: &[String],
@@ -25,7 +26,8 @@ pub fn serve<R: Threads, S: Source, K: Sink, G: Gate + Sync>(
     gate: &G,
 ) -> Status
     // Words are refused, and then nothing is read or written.
-    ensures bad_words { (result ≡ Status.BadWords) ↔ (0 < length words.now) }
+    ensures bad_words { (result ≡ Status.BadWords)
+        ↔ (options_of (map string_bytes words.now) ≡ None) }
     ensures unread { result ≡ Status.BadWords → src.new ≡ src.old }
     ensures silent { IsSilent result → out.new ≡ out.old }
     // The source was read to its end, and the answer or the refusal was written whole.
@@ -45,13 +47,14 @@ pub fn serve<R: Threads, S: Source, K: Sink, G: Gate + Sync>(
         × IsReply accepted read text
         × (n < length text)
         × (K.written out.new ≡ after_putting (K.written out.old) (take n text)) }
-    // One byte more than the limit was read, and never else, unless memory ran out.
+    // One byte more than the limit was read, and else at most as many as the limit, unless memory ran out.
     ensures too_long { result ≡ Status.TooLong → (read : List ℕ) × (length read ≡ input_limit + 1)
         × (S.left src.old ≡ before_giving read (S.left src.new)) }
-    ensures within { result ≢ Status.TooLong → result ≢ Status.NoMemory → (read : List ℕ) × (length read ≤ input_limit)
-        × (S.left src.old ≡ before_giving read (S.left src.new)) }
+    ensures within { HasTaken (input_limit + 1) (S.left src.old) (S.left src.new) }
+    ensures short { result ≢ Status.TooLong → result ≢ Status.NoMemory
+        → HasTaken input_limit (S.left src.old) (S.left src.new) }
     // Where the source tells its bytes, no words are given and no fault comes, the bytes decide.
-    ensures complete { length words.now ≡ 0 → ¬ Rose (S.faults src.old) (S.faults src.new) → ¬ Rose (K.faults out.old) (K.faults out.new)
+    ensures complete { options_of (map string_bytes words.now) ≢ None → ¬ Rose (S.faults src.old) (S.faults src.new) → ¬ Rose (K.faults out.old) (K.faults out.new)
         → IfSome (S.left src.old) (λ bytes. CallsFor bytes result) }
     ensures read_count { S.faults src.old ≤ S.faults src.new }
     ensures write_count { K.faults out.old ≤ K.faults out.new }
@@ -89,11 +92,12 @@ mod tests {
     use scev_io::{MemSink, MemSource};
     use std::alloc::AllocError;
     use std::process::Abort;
+    use std::sync::atomic::{AtomicUsize, Ordering};
     use std::test::Fail;
 
     const LINES: &[u8] = b"== log\n== equal\n";
 
-    const REFUSAL: &[u8] = b"bad input: not here at 0\n";
+    const REFUSAL: &[u8] = b"bad input: lex at 0\n";
 
     /// An input without a session.
     const INPUT: &[u8] = b"func.func @f() {\n  return\n}\n";
@@ -129,7 +133,7 @@ mod tests {
         out: MemSink,
     }
 
-    fn run(rt: &impl Threads, alloc: Global, case: Case<'_>) -> Result<Ended, AllocError> {
+    fn run(rt: &(impl Threads + Sync), alloc: Global, case: Case<'_>) -> Result<Ended, AllocError> {
         let failing = Vec::from_slice(alloc, case.read_faults)?;
         let mut src = MemSource::new(case.bytes, failing);
         let failing = Vec::from_slice(alloc, case.write_faults)?;
@@ -198,6 +202,18 @@ mod tests {
     }
 
     #[test]
+    fn calls_nothing_behind_the_last_byte(rt: HostRuntime) -> Result<(), Fail> {
+        let alloc = rt.alloc();
+        // One call gives the input and the next one the end; one takes the output.
+        let mut case = ample(alloc, INPUT.to_vec(alloc)?);
+        case.read_faults = &[2];
+        case.write_faults = &[1];
+        let ended = run(&rt, alloc, case)?;
+        expect(&rt, &ended, Status::Done, LINES, (0, 0));
+        Ok(())
+    }
+
+    #[test]
     fn writes_byte_by_byte(rt: HostRuntime) -> Result<(), Fail> {
         let alloc = rt.alloc();
         let mut case = ample(alloc, INPUT.to_vec(alloc)?);
@@ -211,12 +227,46 @@ mod tests {
     fn stops_behind_the_limit(rt: HostRuntime) -> Result<(), Fail> {
         let alloc = rt.alloc();
         for (length, status, written) in [
-            (INPUT_LIMIT as usize, Status::BadInput, REFUSAL),
+            (INPUT_LIMIT as usize, Status::Done, LINES),
             (INPUT_LIMIT as usize + 1, Status::TooLong, b"".as_slice()),
         ] {
             let ended = run(&rt, alloc, ample(alloc, vec![in alloc; b' '; length]?))?;
             expect(&rt, &ended, status, written, (0, 0));
         }
+        Ok(())
+    }
+
+    /// A gate that keeps its calls in order, each in two decimal digits: ten times the session, plus
+    /// the command, plus one.
+    #[derive(Drop)]
+    struct RecordingGate {
+        calls: AtomicUsize,
+    }
+
+    impl Gate for RecordingGate {
+        fn pass(&self, session: u32, command: u32) {
+            let call = (session as usize)
+                .wrapping_mul(10)
+                .wrapping_add(command as usize)
+                .wrapping_add(1);
+            let before = self.calls.load(Ordering::SeqCst);
+            let calls = before.wrapping_mul(100).wrapping_add(call);
+            self.calls.store(calls, Ordering::SeqCst);
+        }
+    }
+
+    #[test]
+    fn passes_the_gate_before_each_command(rt: HostRuntime) -> Result<(), Fail> {
+        let alloc = rt.alloc();
+        let bytes = b"== session a\npin 0\npin 0\n== session b\npin 0\n".to_vec(alloc)?;
+        let gate = RecordingGate {
+            calls: AtomicUsize::new(0),
+        };
+        let mut src = MemSource::new(bytes, Vec::new(alloc));
+        let mut out = MemSink::new(alloc, 4096, Vec::new(alloc), 4096)?;
+        let status = serve(&rt, alloc, &[], &mut src, &mut out, &gate);
+        assert_eq!(&rt; status, Status::Done);
+        assert_eq!(&rt; gate.calls.load(Ordering::SeqCst), 10_211);
         Ok(())
     }
 }

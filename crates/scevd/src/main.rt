@@ -14,7 +14,7 @@ fn words<R: Env + AllocGlobal>(rt: &R) -> io::Result<Vec<String>> {
 }
 
 /// Serves standard input and output. Arguments that are no text aren't taken.
-fn run<R: Env + AllocGlobal + Threads>(rt: &R, input: Stdin, output: Stdout) -> Status {
+fn run<R: Env + AllocGlobal + Threads + Sync>(rt: &R, input: Stdin, output: Stdout) -> Status {
     let words = match words(rt) {
         Ok(words) => words,
         Err(error) if error.kind() == ErrorKind::OutOfMemory => return Status::NoMemory,
