@@ -81,8 +81,11 @@ impl<'a> Definitions<'a> {
     /// Adds a definition of a name by its first result. Returns the definition's number, from 1.
     fn define(&mut self, name: &'a [u8], first: PackValue) -> Result<usize, AllocError>
         requires { count_in self.old name.now + 1 < 2 ^ 64 }
-        ensures counts { OnOk result ((q : List ℕ) → count_in self.new q ≡ (if bytes_eq name.now q then count_in self.old name.now + 1 else count_in self.old q)) }
-        ensures firsts { OnOk result ((q : List ℕ) (n : ℕ) → definition_in self.new q n ≡ (if bytes_eq name.now q && count_in self.old name.now + 1 == n then Some first else definition_in self.old q n)) }
+        ensures counts { OnOk result ((q : List ℕ) → count_in self.new q
+            ≡ (if bytes_eq name.now q then count_in self.old name.now + 1 else count_in self.old q)) }
+        ensures firsts { OnOk result ((q : List ℕ) (n : ℕ) → definition_in self.new q n
+            ≡ (if bytes_eq name.now q && count_in self.old name.now + 1 == n then Some first
+            else definition_in self.old q n)) }
         ensures numbers { self.new.numbers ≡ self.old.numbers }
         ensures nth { IfOk result (λ nth. nth ≡ count_in self.old name.now + 1) }
     {
