@@ -34,7 +34,7 @@ use Rattle.scev_soundness.proofs.Segments.{all_append, sound_then, sound_if, sou
 use Rattle.scev_soundness.proofs.Scopes.{with_more, agrees_same, agrees_later, agrees_turn, number_later, binds_keep, binds_ready}
 use Rattle.scev_soundness.proofs.Arguments.{HasBits, HaveBits, AreSized, AreGood, AreUntested, Reads, reads_binds, reads_later, arguments_ready, arguments_length, read_at, variable_ready}
 use Rattle.scev_soundness.proofs.Rounds.{alike_refl, agrees_outer, All, latest, last_inside, all_zip, ends_all, untested_rounds, good_rounds, first_rounds, step_rounds}
-use Rattle.scev_soundness.proofs.Exits.{FromTests, trip_turned, compared_by, compared_are, compared_invariant, sides_hold}
+use Rattle.scev_soundness.proofs.LoopExits.{FromTests, trip_turned, compared_by, compared_are, compared_invariant, sides_hold}
 use Rattle.scev_soundness.proofs.LoopUses.{for_bounds, for_inits, for_results, for_ends}
 use Rattle.scev_soundness.proofs.Results.{carried_ready}
 

@@ -20,7 +20,7 @@ use Rattle.fresh_scev.specs.Facts.{Facts, Comparison, Role, unnamed, counts, unt
 use Rattle.fresh_scev.specs.Loops.{IsGuard}
 use Rattle.scev_soundness.specs.Holding.{point}
 use Rattle.scev_soundness.specs.Agreement.{Agrees, IsTestOf, AreTrueIn}
-use Rattle.scev_soundness.proofs.Exits.{sides_hold}
+use Rattle.scev_soundness.proofs.LoopExits.{sides_hold}
 
 -- the guard of a trip count that has one
 abbrev pub GuardHolds : (ℕ → ℕ) → Turns → Type 0

@@ -9,7 +9,7 @@ pub mod Ready
 pub mod Arguments
 pub mod Rounds
 pub mod LoopUses
-pub mod Exits
+pub mod LoopExits
 pub mod Guards
 pub mod Results
 pub mod Fors

@@ -27,7 +27,7 @@ use Rattle.scev_soundness.proofs.Scopes.{agrees_later, agrees_turn, number_later
 use Rattle.scev_soundness.proofs.Arguments.{HasBits, HaveBits, AreSized, AreGood, AreUntested, Reads, reads_binds, reads_later, arguments_ready, arguments_length, have_bits_length}
 use Rattle.scev_soundness.proofs.Rounds.{alike_refl, agrees_outer, All, latest, last_inside, all_zip, ends_all, untested_rounds, good_rounds, first_rounds, step_rounds}
 use Rattle.scev_soundness.proofs.LoopUses.{while_inits, while_condition, while_params, while_ends}
-use Rattle.scev_soundness.proofs.Exits.{IsRound, tested_turned, tested_counted, tested_invariant}
+use Rattle.scev_soundness.proofs.LoopExits.{IsRound, tested_turned, tested_counted, tested_invariant}
 use Rattle.scev_soundness.proofs.Results.{passed_on_ready}
 
 -- ---- scopes
