@@ -1,11 +1,12 @@
 -- expressions whose variables belong to labels below
 use Rattle.std.proofs.Common.{◌≡◌, ℕ, ◌+◌, ◌*◌, ◌%◌, ◌^◌, ◌<◌, ◌≤◌, ◌⊎◌, inl, inr, ap, ◌∙◌, sym, subst, arith}
-use Rattle.std.proofs.lemmas.Bool.{cases_lt}
+use Rattle.std.proofs.lemmas.Bool.{cases_eq, cases_lt}
 use Rattle.scev_tree.specs.Measure.{monomials, total_degree}
 use Rattle.scev_tree.specs.Polynomial.{Polynomial, num, ext, coefficient, Under, IsCanonical, IsSamePolynomial}
 use Rattle.scev_tree.specs.Tree.{polynomial_of}
 use Rattle.scev_tree.specs.declared.expr.Expr.{Expr}
 pub use Rattle.scev_tree.proofs.ListedTrees.{polynomial_of_num, polynomial_of_ext}
+use Rattle.scev_tree.proofs.EqualTrees.{polynomial_or}
 use Rattle.scev_tree.proofs.Unique.{unique_law}
 use Rattle.chrec_algebra.specs.Limits.{IsWithin}
 use Rattle.chrec_algebra.proofs.UniqueResults.{number_within, variable_within}
@@ -19,6 +20,15 @@ pub same_expression : (e f : Expression) → e.w ≡ f.w → e.p ≡ f.p → e �
 same_expression e f d h =
     let first : e ≡ record { w = f.w; p = e.p } = ap (λ (n : ℕ). record { w = n; p = e.p }) d in
     first ∙ ap (λ (q : Polynomial). record { w = f.w; p = q }) h
+
+pub expression_or : (a b : Expression) → (a ≡ b) ⊎ (a ≡ b → ⊥)
+expression_or a b = elim (cases_eq a.w b.w) [
+  | inl e ↦ (elim (polynomial_or a.p b.p) [
+    | inl f ↦ inl (same_expression a b e f)
+    | inr nf ↦ inr (λ h. nf (ap (λ (x : Expression). x.p) h))
+  ])
+  | inr ne ↦ inr (λ h. ne (ap (λ (x : Expression). x.w) h))
+]
 
 -- equal polynomials at one width
 pub equal_expressions : (a b : Expr) → (a.w ≡ b.w) × IsSamePolynomial (polynomial_of a.tree) (polynomial_of b.tree) → expression_of a ≡ expression_of b

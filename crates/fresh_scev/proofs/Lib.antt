@@ -13,7 +13,6 @@ pub mod FittingLabels
 pub mod CountedRounds
 pub mod LoopKinds
 pub mod Pushed
-pub mod PartViews
 pub mod Walks
 pub mod WalkedLoops
 pub mod WalkSteps
@@ -31,7 +30,6 @@ pub mod EachValue
 pub mod TypedWidths
 pub mod EntriesOfFacts
 pub mod RolesOfValues
-pub mod OneTree
 pub mod OneRule
 pub mod OneTurns
 pub mod SameValues

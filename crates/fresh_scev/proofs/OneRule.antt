@@ -14,8 +14,8 @@ use Rattle.fresh_scev.specs.Expressions.{Expression, IsCut, number_in, counter}
 use Rattle.fresh_scev.specs.Facts.{Facts, IsRuled}
 use Rattle.fresh_scev.specs.Loops.{IsVariable}
 use Rattle.fresh_scev.specs.Rules.{have_width, fitting, IsCutOf, shift_factor, IsShifted, IsBin, truncates, IsTruncatedCast, IsCast, IsComparison, IsSelectedBy, IsSelected, IsMerged}
-use Rattle.fresh_scev.proofs.Before.{same_expression, within_or}
-use Rattle.fresh_scev.proofs.OneTree.{expression_or, under_or}
+use Rattle.fresh_scev.proofs.Before.{same_expression, expression_or, within_or}
+use Rattle.scev_tree.proofs.EqualTrees.{under_or}
 
 pub cut_one : (w label : ℕ) (p : Polynomial) (e f : Expression) → IsCut w label p e → IsCut w label p f → e ≡ f
 cut_one w label p e f c d = elim (within_or p) [

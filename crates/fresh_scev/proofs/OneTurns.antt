@@ -16,7 +16,7 @@ use Rattle.trip_count.specs.declared.answer.Turns.{Turns}
 use Rattle.trip_count.specs.declared.answer.Turns.TheVariants.{Exactly, Guarded}
 use Rattle.fresh_scev.specs.Expressions.{Expression, counter}
 use Rattle.fresh_scev.specs.Loops.{comparing, AreComparedTurns}
-use Rattle.fresh_scev.proofs.OneTree.{expr_one}
+use Rattle.scev_tree.proofs.EqualTrees.{expr_one}
 
 least_one : (P : ℕ → Type 0) (a b : Hit) → IsLeast P a → IsLeast P b → a ≡ b
 least_one P (At m) (At n) h k = ap At (both_ways m n (h.1 n k.0) (k.1 m h.0))

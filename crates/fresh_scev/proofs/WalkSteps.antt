@@ -28,7 +28,7 @@ use Rattle.fresh_scev.specs.Table.{facts_of, next_label, HasRoom, AreKnown, Grow
 use Rattle.fresh_scev.specs.UsesBelow.{AreBelow, CarriesResults, DoUseBelow, DoesUseBelow}
 use Rattle.fresh_scev.specs.Walked.{Says, AreKindRuled, SimpleUsesBelow}
 use Rattle.fresh_scev.proofs.GrowingTables.{next_later, grows_on, room_later, room_less}
-use Rattle.fresh_scev.proofs.PartViews.{if_view, else_view}
+use Rattle.mlir_ir.proofs.PartViews.{if_view, else_view}
 use Rattle.fresh_scev.proofs.Pushed.{uses_at}
 use Rattle.fresh_scev.proofs.StandingFacts.{uses_more, uses_append, view_joined, labels_joined}
 use Rattle.fresh_scev.proofs.CountedRounds.{still_rounds}

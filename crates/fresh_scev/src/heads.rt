@@ -39,7 +39,7 @@ pub(crate) struct WhileHead<'a> {
 }
 
 /// An `scf.for` with that counter.
-#[tactic(auto, using(crate::proofs::PartViews::for_view))]
+#[tactic(auto, using(mlir_ir::proofs::PartViews::for_view))]
 pub(crate) fn for_head<'a>(counter: Label, parts: &'a ForParts) -> ForHead<'a>
     ensures counter { result.counter ≡ counter }
     ensures parts { for_of result (out-ForParts parts.now).body ≡ view_for parts.now }
@@ -56,7 +56,7 @@ pub(crate) fn for_head<'a>(counter: Label, parts: &'a ForParts) -> ForHead<'a>
 }
 
 /// An `scf.while` with that counter.
-#[tactic(auto, using(crate::proofs::PartViews::while_view))]
+#[tactic(auto, using(mlir_ir::proofs::PartViews::while_view))]
 pub(crate) fn while_head<'a>(counter: Label, parts: &'a WhileParts) -> WhileHead<'a>
     ensures counter { result.counter ≡ counter }
     ensures parts { while_of result (out-WhileParts parts.now).before (out-WhileParts parts.now).after

@@ -1,7 +1,7 @@
 -- The program's operations as plain data.
 use Rattle.std.specs.Prelude.{List, [], ◌∷◌, true, false}
 use Rattle.arith_word.specs.declared.label.Label.{Label}
-use Rattle.mlir_ir.specs.declared.types.Region.{Region', Row_of-Op, end_of-Op, more_of-Op}
+use Rattle.mlir_ir.specs.declared.types.Region.{Region, Region', Row_of-Op, end_of-Op, more_of-Op}
 use Rattle.mlir_ir.specs.declared.types.Item.{Item}
 use Rattle.mlir_ir.specs.declared.types.Op.{Op}
 use Rattle.mlir_ir.specs.declared.types.Kind.{Kind, Const, Bin, Cast, Cmp, Select, Call, If', For, While, Held-Kind-If-2, None', Some'}
@@ -39,6 +39,13 @@ abbrev mutual
 abbrev pub view_ops : List Op → plain.OpList
 view_ops [] = plain.nil
 view_ops (op ∷ ops) = plain.next op.packs op.results (view_kind op.kind) (view_ops ops)
+
+-- a region's operations, and the values that it gives on
+abbrev pub rows_of : Region → plain.OpList
+rows_of (Region' shape row ends) = view_row row
+
+abbrev pub ends_of : Region → List Label
+ends_of (Region' shape row ends) = ends
 
 abbrev pub view_items : List Item → List plain.OpList
 view_items [] = []

@@ -18,7 +18,8 @@ use Rattle.mlir_ir.specs.declared.terminal.Terminal.TheVariants as terminals
 use Rattle.mlir_ir.specs.declared.types.Arg.{Arg}
 use Rattle.mlir_ir.specs.declared.types.IrType.{IrType}
 use Rattle.mlir_ir.specs.declared.types.Region.{Region}
-use Rattle.mlir_scope.specs.Built.{AreBehind, ArePast, HasElse, HasParts, IsLeft, IsPast, scope_at, names_said, for_header, while_args, rows_of, ends_of, other_rows, other_ends, first_said, first_ends, second_said, second_ends, behind_before, if_said, for_said, while_said}
+use Rattle.mlir_ir.specs.View.{rows_of, ends_of}
+use Rattle.mlir_scope.specs.Built.{AreBehind, ArePast, HasElse, HasParts, IsLeft, IsPast, scope_at, names_said, for_header, while_args, other_rows, other_ends, first_said, first_ends, second_said, second_ends, behind_before, if_said, for_said, while_said}
 use Rattle.mlir_scope.specs.InScope.{value_of}
 use Rattle.mlir_scope.specs.Said.{said}
 use Rattle.mlir_scope.specs.declared.built_loops.ForHeader.{ForHeader}

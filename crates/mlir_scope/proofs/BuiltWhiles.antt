@@ -11,7 +11,8 @@ use Rattle.mlir_ir.specs.declared.syntax.Branch.{Branch}
 use Rattle.mlir_ir.specs.declared.terminal.Terminal.TheVariants as terminals
 use Rattle.mlir_ir.specs.declared.types.Arg.{Arg}
 use Rattle.mlir_ir.specs.declared.types.Region.{Region}
-use Rattle.mlir_scope.specs.Built.{ArePast, HasParts, IsPast, passed_behind, scope_at, names_said, while_args, rows_of, ends_of, first_said, second_said, second_ends, behind_before, while_said}
+use Rattle.mlir_ir.specs.View.{rows_of, ends_of}
+use Rattle.mlir_scope.specs.Built.{ArePast, HasParts, IsPast, passed_behind, scope_at, names_said, while_args, first_said, second_said, second_ends, behind_before, while_said}
 use Rattle.mlir_scope.specs.Said.{said}
 use Rattle.mlir_scope.specs.declared.place.Place.{Place}
 use Rattle.mlir_scope.specs.declared.simple_kinds.Origin.{Origin}

@@ -8,13 +8,13 @@ use Rattle.mlir_ir.specs.Phrases.{Phrase, spots, first_spot}
 use Rattle.mlir_ir.specs.Resolved.{if_kind, for_kind, while_kind, kind_of, ops_of, values_of, carried, labels, inits_used, nth_use, tys, variable_type}
 use Rattle.mlir_ir.specs.Source.{none, ending, before_parts, head, unsigned, types_in, listed_types, inits_of, op_types, region, region_behind}
 use Rattle.mlir_ir.specs.Values.{Value}
-use Rattle.mlir_ir.specs.View.{view_row}
+pub use Rattle.mlir_ir.specs.View.{rows_of, ends_of}
 use Rattle.mlir_ir.specs.declared.syntax.Branch.{Branch}
 use Rattle.mlir_ir.specs.declared.terminal.Terminal.TheVariants as terminals
 use Rattle.mlir_ir.specs.declared.types.Arg.{Arg}
 use Rattle.mlir_ir.specs.declared.types.IrType.{IrType}
 use Rattle.mlir_ir.specs.declared.types.IrType.TheVariants.{Index}
-use Rattle.mlir_ir.specs.declared.types.Region.{Region, Region'}
+use Rattle.mlir_ir.specs.declared.types.Region.{Region}
 use Rattle.mlir_scope.specs.Blocks.{operations, with_operation}
 use Rattle.mlir_scope.specs.InScope.{value_of}
 use Rattle.mlir_scope.specs.declared.built_loops.ForHeader.{ForHeader}
@@ -80,13 +80,6 @@ kind_at funcs scope at kind = kind_of funcs scope at (head kind) kind (ops_of fu
 pub record AreBehind (old new : Place) (ops : OpList) : Type 0 where
   pub scope : scope_at new ≡ scope_at old ++ values_of old.next ops
   pub next : new.next ≡ old.next + labels_of ops
-
--- the operations of a region, and the values that it gives on
-abbrev pub rows_of : Region → OpList
-rows_of (Region' shape row ends) = view_row row
-
-abbrev pub ends_of : Region → List Label
-ends_of (Region' shape row ends) = ends
 
 -- the types are those of the operation's results
 abbrev pub AreTypesOf : List ValueType → Phrase → Type 0

@@ -25,7 +25,7 @@ use sqlite_items::Items;
 use std::alloc::Global;
 
 /// A region of these operations, which gives on these values.
-#[tactic(auto, using(crate::proofs::BuiltRegions::region_rows, crate::proofs::BuiltRegions::region_ends))]
+#[tactic(auto, using(mlir_ir::proofs::PartViews::region_rows, mlir_ir::proofs::PartViews::region_ends))]
 fn region_of(ops: Vec<Op>, ends: List<Label>) -> Region
     ensures { built.HasParts result (view_ops ops.items) ends }
 {
@@ -116,7 +116,7 @@ pub(crate) fn made_if(c: Label, first: Region, other: Option<Region>) -> Kind
 }
 
 /// An `scf.for`.
-#[tactic(auto, using(crate::proofs::BuiltRegions::for_parts))]
+#[tactic(auto, using(mlir_ir::proofs::PartViews::for_parts))]
 pub(crate) fn made_for(header: ForHeader, body: Region) -> Kind
     ensures { view_kind result ≡ plain.For header.lower header.upper header.step header.iv header.args header.inits (built.rows_of body) (built.ends_of body) }
 {
@@ -132,7 +132,7 @@ pub(crate) fn made_for(header: ForHeader, body: Region) -> Kind
 }
 
 /// An `scf.while`.
-#[tactic(auto, using(crate::proofs::BuiltRegions::while_parts))]
+#[tactic(auto, using(mlir_ir::proofs::PartViews::while_parts))]
 pub(crate) fn made_while(
     header: WhileHeader,
     before: Tested,

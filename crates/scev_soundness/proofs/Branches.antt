@@ -19,8 +19,8 @@ use Rattle.fresh_scev.specs.Each.{Each}
 use Rattle.fresh_scev.specs.Expressions.{Expression, counter, own}
 use Rattle.fresh_scev.specs.Facts.{Facts, untested, AreMerged, IsKind}
 use Rattle.fresh_scev.specs.Rules.{have_width, fitting, IsMerged}
-use Rattle.fresh_scev.proofs.Before.{under_later}
-use Rattle.fresh_scev.proofs.OneTree.{expression_or, under_or}
+use Rattle.fresh_scev.proofs.Before.{under_later, expression_or}
+use Rattle.scev_tree.proofs.EqualTrees.{under_or}
 use Rattle.scev_soundness.specs.Agreement.{IsGood, IsTrueIn, AreTrueIn, Agrees, Keeps, After, IsSound, IsReady, AreReady}
 use Rattle.scev_soundness.specs.Holding.{HasValue, point}
 use Rattle.scev_soundness.proofs.Points.{value_keeps}

@@ -22,8 +22,7 @@ use Rattle.scev_tree.specs.Value.{value}
 use Rattle.scev_tree.proofs.Agreeing.{value_number, value_variable}
 use Rattle.fresh_scev.specs.Expressions.{Expression, symbol, counter, number, own, number_in, IsCut}
 use Rattle.fresh_scev.specs.Rules.{fitting, or_own, folded, IsCutOf, shift_factor, IsShifted, IsBin, truncates, IsTruncatedCast, IsCast, compared, IsComparison, IsEither, IsSelectedBy, IsSelected}
-use Rattle.fresh_scev.proofs.Before.{within_or, same_expression}
-use Rattle.fresh_scev.proofs.OneTree.{expression_or}
+use Rattle.fresh_scev.proofs.Before.{within_or, same_expression, expression_or}
 use Rattle.scev_soundness.specs.Numbering.{IsNumbered}
 use Rattle.scev_soundness.proofs.Ready.{own_good, number_good, cut_good}
 

@@ -1,5 +1,6 @@
 pub mod Unique
 pub mod ListedTrees
+pub mod EqualTrees
 pub mod GrowingLists
 pub mod TreePlaces
 pub mod Scaled

@@ -7,6 +7,6 @@ pub mod Rounds
 pub mod Scopes
 pub mod Simples
 pub mod Simulation
-pub mod Views
+pub mod LoopLabels
 pub mod WhileRounds
 pub mod Written

@@ -1,4 +1,3 @@
 pub mod Layout
 pub mod Machine
-pub mod Parts
 pub mod States

@@ -12,8 +12,7 @@ use Rattle.mlir_ir.specs.declared.types.Kind.{Kind}
 use Rattle.mlir_ir.specs.declared.types.Op.{Op}
 use Rattle.mlir_ir.specs.declared.types.Region.{Region}
 use Rattle.mlir_ir.specs.declared.types.WhileParts.{WhileParts}
-use Rattle.mlir_ir.specs.View.{view_ops, view_kind, view_for, view_while, view_items}
-use Rattle.scf_eval.specs.Parts.{rows_of, ends_of}
+use Rattle.mlir_ir.specs.View.{view_ops, view_kind, view_for, view_while, view_items, rows_of, ends_of}
 use Rattle.scf_eval.specs.Machine.{Move, Done, Halted, Moving, Slots, steps, step_kind, step_items, handed, called, seen, moved}
 use Rattle.scf_eval.specs.declared.input.Input.{Input}
 use Rattle.scf_eval.specs.declared.machine.Machine.{Machine}

@@ -1,7 +1,6 @@
 ghost use Rattle.std.specs.Prelude.{◌≡◌, ◌+◌, ◌<◌, ◌^◌};
 ghost use Rattle.mlir_ir.specs.Operations.{labels_of, inner_labels};
-ghost use Rattle.mlir_ir.specs.View.{view_kind, view_ops, view_for, view_while};
-ghost use Rattle.scf_eval.specs.Parts.{rows_of};
+ghost use Rattle.mlir_ir.specs.View.{view_kind, view_ops, view_for, view_while, rows_of};
 
 use mlir_ir::{ForParts, Kind, Op, Region, WhileParts};
 
@@ -20,7 +19,7 @@ pub(crate) fn past_ops(ops: &[Op], pos: usize) -> usize
 
 /// The slot past the labels of a region's operations.
 #[cycle(labels)]
-#[tactic(auto, using(crate::proofs::Views::region_rows))]
+#[tactic(auto, using(mlir_ir::proofs::PartViews::region_rows))]
 pub(crate) fn past_region(region: &Region, pos: usize) -> usize
     requires { pos + labels_of (rows_of region.now) < 2 ^ 32 }
     ensures { result ≡ pos + labels_of (rows_of region.now) }
@@ -44,7 +43,7 @@ fn past_kind(kind: &Kind, pos: usize) -> usize
 }
 
 #[cycle(labels)]
-#[tactic(auto, using(crate::proofs::Views::for_parts))]
+#[tactic(auto, using(mlir_ir::proofs::PartViews::for_parts))]
 fn past_for(parts: &ForParts, pos: usize) -> usize
     requires { pos + inner_labels (view_for parts.now) < 2 ^ 32 }
     ensures { result ≡ pos + inner_labels (view_for parts.now) }
@@ -53,7 +52,7 @@ fn past_for(parts: &ForParts, pos: usize) -> usize
 }
 
 #[cycle(labels)]
-#[tactic(auto, using(crate::proofs::Views::while_parts))]
+#[tactic(auto, using(mlir_ir::proofs::PartViews::while_parts))]
 fn past_while(parts: &WhileParts, pos: usize) -> usize
     requires { pos + inner_labels (view_while parts.now) < 2 ^ 32 }
     ensures { result ≡ pos + inner_labels (view_while parts.now) }

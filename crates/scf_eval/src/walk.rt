@@ -1,7 +1,7 @@
 ghost use Rattle.std.specs.Prelude.{◌≡◌, ◌+◌, ◌≤◌, ◌<◌, ◌^◌, IfOk};
 ghost use Rattle.mlir_ir.specs.Operations.{labels_of, inner_labels};
+ghost use Rattle.mlir_ir.specs.View as plain;
 ghost use Rattle.mlir_ir.specs.View.{view_kind, view_ops, view_for, view_while};
-ghost use Rattle.scf_eval.specs.Parts as plain;
 ghost use Rattle.scf_eval.specs.States.{Follows, for_steps, kind_steps, ops_steps, region_steps, while_steps};
 
 use crate::input::Input;
@@ -15,7 +15,7 @@ use mlir_ir::{ForParts, IrType, Kind, Op, Region, WhileParts};
 
 /// Runs operations, of which the first has its labels' slots from `pos` on.
 #[cycle(walk)]
-#[tactic(auto, using(crate::proofs::Views::for_labels, crate::proofs::Views::while_labels))]
+#[tactic(auto, using(crate::proofs::LoopLabels::for_labels, crate::proofs::LoopLabels::while_labels))]
 pub(crate) fn run_ops(input: &Input, m: &mut Machine, pos: usize, ops: &[Op]) -> Result<(), Halt>
     requires { pos + labels_of (view_ops ops.now) < 2 ^ 32 }
     ensures ends { Follows result input.now m.old m.new (ops_steps input.now pos ops.now) }
@@ -31,7 +31,7 @@ pub(crate) fn run_ops(input: &Input, m: &mut Machine, pos: usize, ops: &[Op]) ->
 
 /// Runs a region, and writes what it gives on to the slots from `res` on.
 #[cycle(walk)]
-#[tactic(auto, using(crate::proofs::Views::for_labels, crate::proofs::Views::while_labels))]
+#[tactic(auto, using(crate::proofs::LoopLabels::for_labels, crate::proofs::LoopLabels::while_labels))]
 fn run_region(
     input: &Input,
     m: &mut Machine,
@@ -51,7 +51,7 @@ fn run_region(
 
 /// Runs an operation with these results, and gives the slot of the first one.
 #[cycle(walk)]
-#[tactic(auto, using(crate::proofs::Views::for_labels, crate::proofs::Views::while_labels))]
+#[tactic(auto, using(crate::proofs::LoopLabels::for_labels, crate::proofs::LoopLabels::while_labels))]
 fn run_kind(
     input: &Input,
     m: &mut Machine,
@@ -99,7 +99,7 @@ fn run_kind(
 /// Runs an `scf.for`, and gives the slot of its first result. Its results' slots keep the arguments of
 /// the next iteration.
 #[cycle(walk)]
-#[tactic(auto, using(crate::proofs::Views::for_labels, crate::proofs::Views::while_labels))]
+#[tactic(auto, using(crate::proofs::LoopLabels::for_labels, crate::proofs::LoopLabels::while_labels))]
 fn run_for(input: &Input, m: &mut Machine, pos: usize, parts: &ForParts) -> Result<usize, Halt>
     requires { pos + inner_labels (view_for parts.now) < 2 ^ 32 }
     ensures moved { IfOk result (λ res. res ≡ pos + inner_labels (view_for parts.now)) }
@@ -125,7 +125,7 @@ fn run_for(input: &Input, m: &mut Machine, pos: usize, parts: &ForParts) -> Resu
 
 /// Runs an `scf.while`, and gives the slot of its first result.
 #[cycle(walk)]
-#[tactic(auto, using(crate::proofs::Views::for_labels, crate::proofs::Views::while_labels))]
+#[tactic(auto, using(crate::proofs::LoopLabels::for_labels, crate::proofs::LoopLabels::while_labels))]
 fn run_while(input: &Input, m: &mut Machine, pos: usize, parts: &WhileParts) -> Result<usize, Halt>
     requires { pos + inner_labels (view_while parts.now) < 2 ^ 32 }
     ensures moved { IfOk result (λ res. res ≡ pos + inner_labels (view_while parts.now)) }

@@ -1,7 +1,7 @@
 use Rattle.std.proofs.Common.{◌∙◌, ap, refl}
 use Rattle.mlir_ir.specs.View.{view_ops}
 use Rattle.mlir_ir.specs.declared.types.Region.{roll-Region, out-roll-Region}
-use Rattle.mlir_scope.proofs.BuiltRegions.{region_rows, region_ends}
+use Rattle.mlir_ir.proofs.PartViews.{region_rows, region_ends}
 use Rattle.mlir_scope.proofs.built_regions.region_of.Goals as goal
 
 pub returns : goal.returns

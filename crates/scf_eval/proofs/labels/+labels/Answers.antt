@@ -1,6 +1,6 @@
 use Rattle.std.proofs.Common.{rules}
 use Rattle.mlir_ir.specs.declared.types.Region.{the_lemmas}
-use Rattle.scf_eval.proofs.Views.{region_rows}
+use Rattle.mlir_ir.proofs.PartViews.{region_rows}
 use Rattle.scf_eval.proofs.labels.+labels.Goals as goal
 
 pub past_region-past_ops-requires : goal.past_region-past_ops-requires

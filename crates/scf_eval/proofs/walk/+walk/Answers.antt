@@ -6,11 +6,12 @@ use Rattle.mlir_ir.specs.declared.types.ForParts.{out-ForParts}
 use Rattle.mlir_ir.specs.declared.types.WhileParts.{out-WhileParts}
 use Rattle.mlir_ir.specs.Runs.{Number}
 use Rattle.scf_eval.specs.Machine.{step_kind, read}
-use Rattle.scf_eval.specs.Parts.{rows_of, ends_of}
+use Rattle.mlir_ir.specs.View.{rows_of, ends_of}
 use Rattle.scf_eval.specs.States.{slots, held, state_of}
 use Rattle.scf_eval.proofs.Loops.{cut_moves, err_moves, for_cut, for_stops, for_ends, for_goes_on, while_stops, while_ends, while_cut, while_halts, while_goes_on, next_number, steps_same, copied_same, for_begins, while_begins, loop_begins, done_same}
 use Rattle.mlir_ir.specs.declared.types.Arg.{Arg}
-use Rattle.scf_eval.proofs.Views.{for_parts, while_parts, while_labels}
+use Rattle.mlir_ir.proofs.PartViews.{for_parts, while_parts}
+use Rattle.scf_eval.proofs.LoopLabels.{while_labels}
 use Rattle.scf_eval.proofs.walk.+walk.Goals as goal
 
 pub run_region-run_ops-requires : goal.run_region-run_ops-requires

@@ -4,9 +4,8 @@ use Rattle.mlir_ir.specs.declared.types.ForParts.{out-ForParts}
 use Rattle.mlir_ir.specs.declared.types.WhileParts.{out-WhileParts}
 use Rattle.mlir_ir.specs.Operations.{labels_of}
 use Rattle.mlir_ir.specs.Runs.{number}
-use Rattle.mlir_ir.specs.View.{view_ops, view_for, view_while}
+use Rattle.mlir_ir.specs.View.{view_ops, view_for, view_while, rows_of, ends_of}
 use Rattle.scf_eval.specs.Machine.{Move, Counting, Repeating, handed, steps, step_kind, turns, rounds}
-use Rattle.scf_eval.specs.Parts.{rows_of, ends_of}
 use Rattle.scf_eval.specs.States.{slots, held, state_of}
 use Rattle.scf_eval.proofs.Loops.{OnLoop}
 use Rattle.scf_eval.proofs.walk.+walk.Given as goal

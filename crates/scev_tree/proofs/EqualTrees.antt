@@ -6,8 +6,6 @@ use Rattle.scev_tree.specs.declared.expr.Expr.{Expr}
 use Rattle.scev_tree.specs.declared.tree.Tree.{Tree, Num, Ext, Ext', Row_of-Tree, end_of-Tree, more_of-Tree, out-Tree, roll-Tree, roll-out-Tree, items-the_row-Tree, items_shown-the_row-Tree-0}
 use Rattle.scev_tree.specs.Polynomial.{Polynomial, Polynomials, num, ext, none, more, Under, IsCanonical, canonical_prop, variable_of}
 use Rattle.scev_tree.specs.Tree.{polynomial_of, polynomials_of}
-use Rattle.fresh_scev.specs.Expressions.{Expression}
-use Rattle.fresh_scev.proofs.Before.{same_expression}
 
 -- ---- polynomials
 
@@ -50,15 +48,6 @@ mutual
     ])
     | inr ne ↦ inr (λ h. ne (more_same p q ps qs h).0)
   ]
-
-pub expression_or : (a b : Expression) → (a ≡ b) ⊎ (a ≡ b → ⊥)
-expression_or a b = elim (cases_eq a.w b.w) [
-  | inl e ↦ (elim (polynomial_or a.p b.p) [
-    | inl f ↦ inl (same_expression a b e f)
-    | inr nf ↦ inr (λ h. nf (ap (λ (x : Expression). x.p) h))
-  ])
-  | inr ne ↦ inr (λ h. ne (ap (λ (x : Expression). x.w) h))
-]
 
 pub under_or : (p : Polynomial) (top : ℕ) → Under p top ⊎ (Under p top → ⊥)
 under_or (num v) top = inl tt
