@@ -100,7 +100,7 @@ module _ (items : List OpList) (item : ℕ) where
     abbrev all_marks : List Bool
     all_marks = used_from item 1 items
 
-    step : (m n : ℕ) → 0 < m → is_marked all_marks n ≡ true → uses_item (item_at items n) m ≡ true → is_marked all_marks m ≡ true
+    pub step : (m n : ℕ) → 0 < m → is_marked all_marks n ≡ true → uses_item (item_at items n) m ≡ true → is_marked all_marks m ≡ true
     step zero n some h u = absurd (omega (arith, some))
     step (suc m) zero some h u = absurd (cc)
     step (suc m) (suc n) some h u =

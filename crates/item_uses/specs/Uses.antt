@@ -1,5 +1,5 @@
 -- Which items of a function use values of which others. Items are numbered from 1; the arguments are item 0.
-use Rattle.std.specs.Prelude.{ℕ, ◌+◌, ◌==◌, ◌||◌, ◌&&◌, Bool, false, List, [], ◌∷◌, ◌++◌, length, slice_index_or, Option, Some, None, IsTrue}
+use Rattle.std.specs.Prelude.{ℕ, ◌+◌, ◌==◌, ◌<◌, ◌||◌, ◌&&◌, Bool, false, List, [], ◌∷◌, ◌++◌, length, slice_index_or, Option, Some, None, IsTrue}
 use Rattle.std.specs.List.{list_any}
 use Rattle.arith_word.specs.Labels.{item_of}
 use Rattle.arith_word.specs.declared.label.Label.{Label}
@@ -77,3 +77,8 @@ affected_items f item = affected_from item [] (func_items f)
 
 abbrev pub used_items : Func → ℕ → List Bool
 used_items f item = used_from item 1 (func_items f)
+
+-- the items that an item with its mark uses have theirs
+abbrev pub AreClosed : List Bool → Func → Type 0
+AreClosed marks f = (n m : ℕ) → IsTrue (is_marked marks n) → 0 < m → IsTrue (uses_item (item_at (func_items f) n) m)
+    → IsTrue (is_marked marks m)

@@ -4,7 +4,7 @@ ghost use Rattle.arith_word.specs.Labels.{func_of};
 ghost use Rattle.arith_word.specs.declared.label.Label.{Label};
 ghost use Rattle.mlir_ir.specs.Check.{IsWellFormed};
 ghost use Rattle.mlir_ir.specs.declared.types.Func.{Func};
-ghost use Rattle.item_uses.specs.Uses.{Depends, affected_items, is_marked, used_items};
+ghost use Rattle.item_uses.specs.Uses.{AreClosed, Depends, affected_items, is_marked, used_items};
 ghost use Rattle.item_uses.specs.Uses.{func_items, item_at, ops_uses, uses_item};
 
 /// The items of a well-formed function use values of the function alone: of its arguments, of earlier
@@ -28,13 +28,14 @@ pub fn affected_items_depend()
     ensures arguments { (f : Func) (n : ℕ) → is_marked (affected_items f 0) n ≡ false }
 {}
 
-/// The items that are used are those on which the given one depends, by the same chains. There is an
-/// entry for each item.
+/// The items that are used are those on which the given one depends, by the same chains; so they have
+/// all items that they use among them. There is an entry for each item.
 pub fn used_items_are_depended_on()
     ensures entries { (f : Func) (item : ℕ)
         → length (used_items f item) ≡ length (func_items f) }
     ensures depend { (f : Func) (item n : ℕ) → IsWellFormed f
         → 0 < item → item ≤ length (func_items f) → 0 < n
         → IsTrue (is_marked (used_items f item) n) ↔ Depends (func_items f) n item }
+    ensures closed { (f : Func) (item : ℕ) → IsWellFormed f → AreClosed (used_items f item) f }
     ensures arguments { (f : Func) (n : ℕ) → is_marked (used_items f 0) n ≡ false }
 {}
