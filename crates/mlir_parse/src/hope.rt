@@ -45,7 +45,9 @@ fn begins_text(alloc: Global, lines: &[Rule], tokens: &[Terminal]) -> Result<boo
     requires lines { AreLines lines.now }
     requires few { length tokens.now < 2 ^ 32 }
     requires shallow { texts.IsShallow tokens.now }
-    ensures { IfOk result (λ begins. MatchBool begins (texts.BeginsText tokens.now) (texts.BeginsText tokens.now → ⊥)) }
+    ensures { IfOk result
+        (λ begins. MatchBool begins (texts.BeginsText tokens.now)
+        (texts.BeginsText tokens.now → ⊥)) }
 {
     match tree_of(alloc, lines, tokens) {
         Ok(_) => Ok(true),
@@ -74,7 +76,9 @@ fn name_could_stand(alloc: Global, lines: &[Rule], tokens: &[Terminal]) -> Resul
     requires lines { AreLines lines.now }
     requires few { length tokens.now + 1 < 2 ^ 32 }
     requires shallow { texts.IsShallow tokens.now }
-    ensures { IfOk result (λ could. MatchBool could (texts.NameCouldStand tokens.now) (texts.NameCouldStand tokens.now → ⊥)) }
+    ensures { IfOk result
+        (λ could. MatchBool could (texts.NameCouldStand tokens.now)
+        (texts.NameCouldStand tokens.now → ⊥)) }
 {
     'probes: for probe in PROBES {
         let more = with_next(alloc, tokens, probe)?;
@@ -97,7 +101,9 @@ pub fn is_not_here(
     requires lines { AreLines lines.now }
     requires few { length tokens.now < 2 ^ 32 }
     requires fault { texts.IsSyntaxFault tokens.now at }
-    ensures { IfOk result (λ here. MatchBool here (texts.IsNotHere tokens.now at) (texts.IsOtherFault tokens.now at)) }
+    ensures { IfOk result
+        (λ here. MatchBool here (texts.IsNotHere tokens.now at)
+        (texts.IsOtherFault tokens.now at)) }
 {
     if at >= tokens.len() {
         return Ok(false);

@@ -21,5 +21,6 @@ pub fn one_syntax()
 pub fn one_answer()
     ensures fault { (text : List ℕ) (e f : ParseFault) → IsRefused text e → IsRefused text f
         → (e ≡ NoMemory → ⊥) → (f ≡ NoMemory → ⊥) → e ≡ f }
-    ensures no_fault { (text : List ℕ) (s : Syntax) (e : ParseFault) → IsSyntaxOf text s → IsRefused text e → e ≡ NoMemory }
+    ensures no_fault { (text : List ℕ) (s : Syntax) (e : ParseFault) → IsSyntaxOf text s
+        → IsRefused text e → e ≡ NoMemory }
 {}

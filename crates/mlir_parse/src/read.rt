@@ -50,7 +50,8 @@ fn read_one(
     requires within { at ≤ length tokens.now }
     requires few { length tokens.now < 2 ^ 32 }
     ensures gives { Gives depth (one terminal) tokens.now at result }
-    ensures grows { IfOk result (Grows tokens.now depth (one terminal) at out.old.items out.new.items) }
+    ensures grows { IfOk result
+        (Grows tokens.now depth (one terminal) at out.old.items out.new.items) }
 {
     if next_is(terminal, tokens, at) {
         out.push(Branch::leaf(alloc, at as u32))?;
@@ -80,7 +81,8 @@ fn read_type_name(
     requires within { at ≤ length tokens.now }
     requires few { length tokens.now < 2 ^ 32 }
     ensures gives { Gives depth (line TypeName) tokens.now at result }
-    ensures grows { IfOk result (Grows tokens.now depth (line TypeName) at out.old.items out.new.items) }
+    ensures grows { IfOk result
+        (Grows tokens.now depth (line TypeName) at out.old.items out.new.items) }
 {
     let mut parts = Vec::with_capacity(alloc, 1)?;
     match read_one(alloc, &mut parts, Terminal::TypeWord, depth, tokens, at) {
@@ -104,7 +106,8 @@ fn read_pick(
     requires within { at ≤ length tokens.now }
     requires few { length tokens.now < 2 ^ 32 }
     ensures gives { Gives depth (maybe (one Pick)) tokens.now at result }
-    ensures grows { IfOk result (Grows tokens.now depth (maybe (one Pick)) at parts.old.items parts.new.items) }
+    ensures grows { IfOk result
+        (Grows tokens.now depth (maybe (one Pick)) at parts.old.items parts.new.items) }
 {
     if next_is(Terminal::Pick, tokens, at) {
         read_one(alloc, parts, Terminal::Pick, depth, tokens, at)
@@ -154,7 +157,8 @@ fn read_line(
     requires few { length source.now.tokens.now < 2 ^ 32 }
     requires shallow { depth ≤ region_limit }
     ensures gives { Gives depth (line form) source.now.tokens.now at result }
-    ensures grows { IfOk result (Grows source.now.tokens.now depth (line form) at out.old.items out.new.items) }
+    ensures grows { IfOk result
+        (Grows source.now.tokens.now depth (line form) at out.old.items out.new.items) }
 {
     match form {
         Form::TypeName => read_type_name(alloc, out, depth, source.tokens, at),
@@ -179,7 +183,8 @@ fn read_by_rule(
     requires few { length source.now.tokens.now < 2 ^ 32 }
     requires shallow { depth ≤ region_limit }
     ensures gives { Gives depth (line form) source.now.tokens.now at result }
-    ensures grows { IfOk result (Grows source.now.tokens.now depth (line form) at out.old.items out.new.items) }
+    ensures grows { IfOk result
+        (Grows source.now.tokens.now depth (line form) at out.old.items out.new.items) }
 {
     let before = out.len();
     match read(alloc, out, source, line_rule(source.lines, form), depth, at) {
@@ -212,7 +217,9 @@ fn read_both(
     requires first { IsMarked a.now }
     requires second { IsMarked b.now }
     ensures gives { Gives depth (both (seen a.now) (seen b.now)) source.now.tokens.now at result }
-    ensures grows { IfOk result (Grows source.now.tokens.now depth (both (seen a.now) (seen b.now)) at out.old.items out.new.items) }
+    ensures grows { IfOk result
+        (Grows source.now.tokens.now depth
+        (both (seen a.now) (seen b.now)) at out.old.items out.new.items) }
 {
     match read(alloc, out, source, a, depth, at) {
         Err(fault) => Err(fault),
@@ -240,7 +247,8 @@ fn read_many(
     requires marked { IsMarked rule.now }
     requires set { set ≡ first_set (seen rule.now) }
     ensures gives { Gives depth (many (seen rule.now)) source.now.tokens.now at result }
-    ensures grows { IfOk result (Grows source.now.tokens.now depth (many (seen rule.now)) at out.old.items out.new.items) }
+    ensures grows { IfOk result
+        (Grows source.now.tokens.now depth (many (seen rule.now)) at out.old.items out.new.items) }
 {
     let mut here = at;
     'again: while may_begin(rule, set, source.tokens, here) {
@@ -270,7 +278,9 @@ fn read_region(
     requires shallow { depth ≤ region_limit }
     requires marked { IsMarked rule.now }
     ensures gives { Gives depth (region (seen rule.now)) source.now.tokens.now at result }
-    ensures grows { IfOk result (Grows source.now.tokens.now depth (region (seen rule.now)) at out.old.items out.new.items) }
+    ensures grows { IfOk result
+        (Grows source.now.tokens.now depth
+        (region (seen rule.now)) at out.old.items out.new.items) }
 {
     if !next_is(Terminal::LeftBrace, source.tokens, at) {
         return Err(Fault::Syntax(at));
@@ -311,7 +321,8 @@ pub fn read(
     requires shallow { depth ≤ region_limit }
     requires marked { IsMarked rule.now }
     ensures gives { Gives depth (seen rule.now) source.now.tokens.now at result }
-    ensures grows { IfOk result (Grows source.now.tokens.now depth (seen rule.now) at out.old.items out.new.items) }
+    ensures grows { IfOk result
+        (Grows source.now.tokens.now depth (seen rule.now) at out.old.items out.new.items) }
 {
     match rule {
         Rule::Nothing => Ok(at),

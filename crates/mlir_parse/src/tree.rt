@@ -13,7 +13,8 @@ use std::alloc::Global;
 pub fn tree_of(alloc: Global, lines: &[Rule], tokens: &[Terminal]) -> Result<Branch, Fault>
     requires lines { AreLines lines.now }
     requires few { length tokens.now < 2 ^ 32 }
-    ensures { MatchResult result (λ root. IsTreeOf tokens.now (put root none)) (λ e. IsFault tokens.now e) }
+    ensures { MatchResult result (λ root. IsTreeOf tokens.now (put root none))
+        (λ e. IsFault tokens.now e) }
 {
     let whole = line_rule(lines, Form::Whole);
     let mut parts = Vec::new(alloc);

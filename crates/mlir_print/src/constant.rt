@@ -8,7 +8,8 @@ use std::alloc::AllocError;
 const INDEX_BITS: u32 = 64;
 
 fn push_value(out: &mut String, ty: IrType, v: u64) -> Result<(), AllocError>
-    ensures { OnOk result (string_bytes out.new ≡ string_bytes out.old ++ constant_text v (ty ∷ [])) }
+    ensures { OnOk result
+        (string_bytes out.new ≡ string_bytes out.old ++ constant_text v (ty ∷ [])) }
 {
     match ty {
         IrType::Int(width) => {

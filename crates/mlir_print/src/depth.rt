@@ -16,7 +16,8 @@ pub(crate) enum Depth<'a> {
 /// Adds the blanks in front of a line.
 #[tactic(auto, using(crate::proofs::Texts::two_more))]
 pub(crate) fn push_blanks(out: &mut String, depth: &Depth<'_>) -> Result<(), AllocError>
-    ensures { OnOk result (string_bytes out.new ≡ string_bytes out.old ++ replicate (2 * depth_of depth.now) 32) }
+    ensures { OnOk result
+        (string_bytes out.new ≡ string_bytes out.old ++ replicate (2 * depth_of depth.now) 32) }
 {
     match depth {
         Depth::Outside => Ok(()),
@@ -29,7 +30,8 @@ pub(crate) fn push_blanks(out: &mut String, depth: &Depth<'_>) -> Result<(), All
 
 /// Adds a line.
 pub(crate) fn push_line(out: &mut String, depth: &Depth<'_>, text: &str) -> Result<(), AllocError>
-    ensures { OnOk result (string_bytes out.new ≡ string_bytes out.old ++ line (depth_of depth.now) text.now) }
+    ensures { OnOk result
+        (string_bytes out.new ≡ string_bytes out.old ++ line (depth_of depth.now) text.now) }
 {
     push_blanks(out, depth)?;
     writeln!(out, "{text}")

@@ -29,7 +29,8 @@ fn add_unnamed<'a>(row: &mut Vec<Slot<'a>>, types: &[IrType]) -> Result<(), Allo
 
 /// Adds the slots of arguments.
 pub(crate) fn add_args<'a>(row: &mut Vec<Slot<'a>>, args: &'a [Arg]) -> Result<(), AllocError>
-    ensures { OnOk result (AreAdded row.old.items row.new.items (length args.now) (λ at. arg_values at args.now)) }
+    ensures { OnOk result
+        (AreAdded row.old.items row.new.items (length args.now) (λ at. arg_values at args.now)) }
 {
     for arg in args {
         row.push(Slot::Argument(arg))?;
@@ -43,7 +44,9 @@ fn add_pack<'a>(
     pack: &'a Pack,
     types: &'a [IrType],
 ) -> Result<(), AllocError>
-    ensures { OnOk result (AreAdded row.old.items row.new.items (length types.now) (λ at. pack_values at pack.now 0 types.now)) }
+    ensures { OnOk result
+        (AreAdded row.old.items row.new.items (length types.now)
+        (λ at. pack_values at pack.now 0 types.now)) }
 {
     for (place, ty) in types.iter().enumerate() {
         row.push(Slot::Part(pack, place, ty))?;
@@ -57,7 +60,9 @@ fn add_results<'a>(
     packs: &'a [Pack],
     types: &'a [IrType],
 ) -> Result<(), AllocError>
-    ensures { OnOk result (AreAdded row.old.items row.new.items (length types.now) (λ at. result_values at packs.now types.now)) }
+    ensures { OnOk result
+        (AreAdded row.old.items row.new.items (length types.now)
+        (λ at. result_values at packs.now types.now)) }
 {
     let mut left = types;
     for pack in packs {
@@ -72,7 +77,8 @@ fn add_results<'a>(
 /// Adds the slots of operations.
 #[cycle(fill)]
 pub(crate) fn add_ops<'a>(row: &mut Vec<Slot<'a>>, ops: &'a [Op]) -> Result<(), AllocError>
-    ensures { OnOk result (AreAdded row.old.items row.new.items (ops_labels ops.now) (λ at. ops_values at ops.now)) }
+    ensures { OnOk result
+        (AreAdded row.old.items row.new.items (ops_labels ops.now) (λ at. ops_values at ops.now)) }
 {
     for op in ops {
         add_kind(row, &op.kind)?;
@@ -84,7 +90,9 @@ pub(crate) fn add_ops<'a>(row: &mut Vec<Slot<'a>>, ops: &'a [Op]) -> Result<(), 
 /// Adds the slots of a region.
 #[cycle(fill)]
 fn add_region<'a>(row: &mut Vec<Slot<'a>>, region: &'a Region) -> Result<(), AllocError>
-    ensures { OnOk result (AreAdded row.old.items row.new.items (region_labels region.now) (λ at. region_values at region.now)) }
+    ensures { OnOk result
+        (AreAdded row.old.items row.new.items (region_labels region.now)
+        (λ at. region_values at region.now)) }
 {
     add_ops(row, region.ops.as_slice())?;
     Ok(())
@@ -93,7 +101,9 @@ fn add_region<'a>(row: &mut Vec<Slot<'a>>, region: &'a Region) -> Result<(), All
 /// Adds the slots of what stands inside an operation.
 #[cycle(fill)]
 fn add_kind<'a>(row: &mut Vec<Slot<'a>>, kind: &'a Kind) -> Result<(), AllocError>
-    ensures { OnOk result (AreAdded row.old.items row.new.items (kind_labels kind.now) (λ at. kind_values at kind.now)) }
+    ensures { OnOk result
+        (AreAdded row.old.items row.new.items (kind_labels kind.now)
+        (λ at. kind_values at kind.now)) }
 {
     match kind {
         Kind::If(_, first, None) => add_region(row, first),
@@ -110,7 +120,9 @@ fn add_kind<'a>(row: &mut Vec<Slot<'a>>, kind: &'a Kind) -> Result<(), AllocErro
 /// Adds the slots of a loop, the first for its counter.
 #[cycle(fill)]
 fn add_for<'a>(row: &mut Vec<Slot<'a>>, parts: &'a ForParts) -> Result<(), AllocError>
-    ensures { OnOk result (AreAdded row.old.items row.new.items (kind_labels (Kind.For parts.now)) (λ at. kind_values at (Kind.For parts.now))) }
+    ensures { OnOk result
+        (AreAdded row.old.items row.new.items (kind_labels (Kind.For parts.now))
+        (λ at. kind_values at (Kind.For parts.now))) }
 {
     add_none(row)?;
     add_args(row, slice::from_ref(&parts.iv))?;
@@ -121,7 +133,9 @@ fn add_for<'a>(row: &mut Vec<Slot<'a>>, parts: &'a ForParts) -> Result<(), Alloc
 /// Adds the slots of a loop, the first for its counter.
 #[cycle(fill)]
 fn add_while<'a>(row: &mut Vec<Slot<'a>>, parts: &'a WhileParts) -> Result<(), AllocError>
-    ensures { OnOk result (AreAdded row.old.items row.new.items (kind_labels (Kind.While parts.now)) (λ at. kind_values at (Kind.While parts.now))) }
+    ensures { OnOk result
+        (AreAdded row.old.items row.new.items (kind_labels (Kind.While parts.now))
+        (λ at. kind_values at (Kind.While parts.now))) }
 {
     add_none(row)?;
     add_args(row, parts.args.as_slice())?;

@@ -12,7 +12,8 @@ use mlir_ir::{Body, Func, Item, Module};
 use std::alloc::{AllocError, Global};
 
 fn push_items(out: &mut String, names: &Names<'_>, items: &[Item]) -> Result<(), AllocError>
-    ensures { OnOk result (string_bytes out.new ≡ string_bytes out.old ++ items_text names.now items.now) }
+    ensures { OnOk result
+        (string_bytes out.new ≡ string_bytes out.old ++ items_text names.now items.now) }
 {
     let outside = Depth::Outside;
     let depth = Depth::Inside(&outside);
@@ -35,7 +36,9 @@ fn push_head(out: &mut String, func: &Func) -> Result<(), AllocError>
 
 /// Adds a declaration, which is one line with types alone.
 fn push_declaration(out: &mut String, func: &Func) -> Result<(), AllocError>
-    ensures { OnOk result ((naming : Naming) → string_bytes out.new ≡ string_bytes out.old ++ body_text naming func.now None) }
+    ensures { OnOk result
+        ((naming : Naming) → string_bytes out.new ≡ string_bytes out.old
+        ++ body_text naming func.now None) }
 {
     push_head(out, func)?;
     write!(out, "(")?;
@@ -48,7 +51,10 @@ fn push_declaration(out: &mut String, func: &Func) -> Result<(), AllocError>
 
 /// Adds the first line of a function with a body.
 fn push_opening(out: &mut String, func: &Func) -> Result<(), AllocError>
-    ensures { OnOk result (string_bytes out.new ≡ string_bytes out.old ++ line 0 (head_text func.now ++ bracketed (joined (map arg_text func.now.args)) ++ arrow_text func.now.results ++ codes " {")) }
+    ensures { OnOk result
+        (string_bytes out.new ≡ string_bytes out.old
+        ++ line 0 (head_text func.now ++ bracketed (joined (map arg_text func.now.args))
+        ++ arrow_text func.now.results ++ codes " {")) }
 {
     push_head(out, func)?;
     push_args(out, func.args.as_slice())?;
@@ -59,7 +65,9 @@ fn push_opening(out: &mut String, func: &Func) -> Result<(), AllocError>
 
 /// Adds the last lines of a function with a body.
 fn push_return(out: &mut String, names: &Names<'_>, body: &Body) -> Result<(), AllocError>
-    ensures { OnOk result (string_bytes out.new ≡ string_bytes out.old ++ (line 1 (codes "return" ++ ends_text names.now body.now.ret) ++ line 0 (codes "}"))) }
+    ensures { OnOk result
+        (string_bytes out.new ≡ string_bytes out.old
+        ++ (line 1 (codes "return" ++ ends_text names.now body.now.ret) ++ line 0 (codes "}"))) }
 {
     write!(out, "  return")?;
     push_ends(out, names, body.ret.as_slice())?;
@@ -76,7 +84,9 @@ fn push_definition(
     body: &Body,
 ) -> Result<(), AllocError>
     requires { IsWellFormed func.now }
-    ensures { OnOk result (string_bytes out.new ≡ string_bytes out.old ++ body_text (naming_of (map (λ f. f.name) funcs.now) func.now) func.now (Some body.now)) }
+    ensures { OnOk result
+        (string_bytes out.new ≡ string_bytes out.old
+        ++ body_text (naming_of (map (λ f. f.name) funcs.now) func.now) func.now (Some body.now)) }
 {
     let names = Names::new(alloc, funcs, func)?;
     push_opening(out, func)?;
@@ -93,7 +103,9 @@ pub(crate) fn push_func(
     func: &Func,
 ) -> Result<(), AllocError>
     requires { IsWellFormed func.now }
-    ensures { OnOk result (string_bytes out.new ≡ string_bytes out.old ++ func_text (map (λ f. f.name) funcs.now) func.now) }
+    ensures { OnOk result
+        (string_bytes out.new ≡ string_bytes out.old
+        ++ func_text (map (λ f. f.name) funcs.now) func.now) }
 {
     match &func.body {
         Some(body) => push_definition(alloc, out, funcs, func, body)?,
@@ -120,7 +132,9 @@ pub fn print(alloc: Global, m: &Module) -> Result<String, AllocError>
 /// only where memory runs out.
 pub fn print_func(alloc: Global, m: &Module, f: u16) -> Result<Option<String>, AllocError>
     requires formed { All IsWellFormed m.now.funcs }
-    ensures { IfOk result (λ text. option_map string_bytes text ≡ option_map (func_text (map (λ g. g.name) m.now.funcs)) (slice_get m.now.funcs f)) }
+    ensures { IfOk result
+        (λ text. option_map string_bytes text
+        ≡ option_map (func_text (map (λ g. g.name) m.now.funcs)) (slice_get m.now.funcs f)) }
 {
     let funcs = m.funcs.as_slice();
     let at = f as usize;

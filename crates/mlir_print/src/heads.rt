@@ -16,7 +16,8 @@ pub(crate) fn push_if_head(
     results: &[IrType],
     c: Label,
 ) -> Result<(), AllocError>
-    ensures { OnOk result (string_bytes out.new ≡ string_bytes out.old ++ if_head names.now results.now c) }
+    ensures { OnOk result
+        (string_bytes out.new ≡ string_bytes out.old ++ if_head names.now results.now c) }
 {
     write!(out, "scf.if ")?;
     push_use(out, names, c)?;
@@ -32,7 +33,9 @@ fn push_carried(
     inits: &[Label],
     results: &[IrType],
 ) -> Result<(), AllocError>
-    ensures { OnOk result (string_bytes out.new ≡ string_bytes out.old ++ carried_text names.now args.now inits.now results.now) }
+    ensures { OnOk result
+        (string_bytes out.new ≡ string_bytes out.old
+        ++ carried_text names.now args.now inits.now results.now) }
 {
     if args.is_empty() {
         return Ok(());
@@ -64,7 +67,10 @@ fn push_bounds(
     upper: Label,
     step: Label,
 ) -> Result<(), AllocError>
-    ensures { OnOk result (string_bytes out.new ≡ string_bytes out.old ++ (use_text names.now lower ++ codes " to " ++ use_text names.now upper ++ codes " step " ++ use_text names.now step)) }
+    ensures { OnOk result
+        (string_bytes out.new ≡ string_bytes out.old
+        ++ (use_text names.now lower ++ codes " to " ++ use_text names.now upper ++ codes " step "
+        ++ use_text names.now step)) }
 {
     push_use(out, names, lower)?;
     write!(out, " to ")?;
@@ -79,7 +85,8 @@ pub(crate) fn push_for_head(
     results: &[IrType],
     parts: &ForParts,
 ) -> Result<(), AllocError>
-    ensures { OnOk result (string_bytes out.new ≡ string_bytes out.old ++ for_head names.now results.now parts.now) }
+    ensures { OnOk result
+        (string_bytes out.new ≡ string_bytes out.old ++ for_head names.now results.now parts.now) }
 {
     let iv = &parts.iv.name;
     write!(out, "scf.for %{iv} = ")?;
@@ -103,7 +110,8 @@ fn push_while_inits(
     args: &[Arg],
     inits: &[Label],
 ) -> Result<(), AllocError>
-    ensures { OnOk result (string_bytes out.new ≡ string_bytes out.old ++ while_inits names.now args.now inits.now) }
+    ensures { OnOk result
+        (string_bytes out.new ≡ string_bytes out.old ++ while_inits names.now args.now inits.now) }
 {
     if args.is_empty() {
         return Ok(());
@@ -119,7 +127,9 @@ pub(crate) fn push_while_head(
     results: &[IrType],
     parts: &WhileParts,
 ) -> Result<(), AllocError>
-    ensures { OnOk result (string_bytes out.new ≡ string_bytes out.old ++ while_head names.now results.now parts.now) }
+    ensures { OnOk result
+        (string_bytes out.new ≡ string_bytes out.old
+        ++ while_head names.now results.now parts.now) }
 {
     write!(out, "scf.while ")?;
     push_while_inits(out, names, parts.args.as_slice(), parts.inits.as_slice())?;
@@ -136,7 +146,8 @@ pub(crate) fn push_block(
     depth: &Depth<'_>,
     args: &[Arg],
 ) -> Result<(), AllocError>
-    ensures { OnOk result (string_bytes out.new ≡ string_bytes out.old ++ block_text (depth_of depth.now) args.now) }
+    ensures { OnOk result
+        (string_bytes out.new ≡ string_bytes out.old ++ block_text (depth_of depth.now) args.now) }
 {
     if args.is_empty() {
         return Ok(());
@@ -155,7 +166,9 @@ pub(crate) fn push_end(
     word: &str,
     ends: &[Label],
 ) -> Result<(), AllocError>
-    ensures { OnOk result (string_bytes out.new ≡ string_bytes out.old ++ line (depth_of depth.now) (word.now ++ ends_text names.now ends.now)) }
+    ensures { OnOk result
+        (string_bytes out.new ≡ string_bytes out.old
+        ++ line (depth_of depth.now) (word.now ++ ends_text names.now ends.now)) }
 {
     push_blanks(out, depth)?;
     write!(out, "{word}")?;
@@ -171,7 +184,11 @@ pub(crate) fn push_condition(
     cond: Label,
     ends: &[Label],
 ) -> Result<(), AllocError>
-    ensures { OnOk result (string_bytes out.new ≡ string_bytes out.old ++ line (depth_of depth.now) (codes "scf.condition" ++ bracketed (use_text names.now cond) ++ ends_text names.now ends.now)) }
+    ensures { OnOk result
+        (string_bytes out.new ≡ string_bytes out.old
+        ++ line (depth_of depth.now)
+        (codes "scf.condition" ++ bracketed (use_text names.now cond)
+        ++ ends_text names.now ends.now)) }
 {
     push_blanks(out, depth)?;
     write!(out, "scf.condition(")?;
@@ -188,7 +205,9 @@ pub(crate) fn push_yield(
     depth: &Depth<'_>,
     ends: &[Label],
 ) -> Result<(), AllocError>
-    ensures { OnOk result (string_bytes out.new ≡ string_bytes out.old ++ yield_text names.now (depth_of depth.now) ends.now) }
+    ensures { OnOk result
+        (string_bytes out.new ≡ string_bytes out.old
+        ++ yield_text names.now (depth_of depth.now) ends.now) }
 {
     if ends.is_empty() {
         return Ok(());

@@ -8,7 +8,8 @@ use std::alloc::AllocError;
 
 #[tactic(auto, using(crate::proofs::Commas::behind_more))]
 fn push_more_types(out: &mut String, types: &[IrType]) -> Result<(), AllocError>
-    ensures { OnOk result (string_bytes out.new ≡ string_bytes out.old ++ behind_commas (map type_text types.now)) }
+    ensures { OnOk result
+        (string_bytes out.new ≡ string_bytes out.old ++ behind_commas (map type_text types.now)) }
 {
     for ty in types {
         write!(out, ", ")?;
@@ -32,7 +33,8 @@ pub(crate) fn push_types(out: &mut String, types: &[IrType]) -> Result<(), Alloc
 
 /// Adds the types of arguments, parted by a comma and a blank.
 pub(crate) fn push_arg_types(out: &mut String, args: &[Arg]) -> Result<(), AllocError>
-    ensures { OnOk result (string_bytes out.new ≡ string_bytes out.old ++ types_text (map (λ arg. arg.ty) args.now)) }
+    ensures { OnOk result
+        (string_bytes out.new ≡ string_bytes out.old ++ types_text (map (λ arg. arg.ty) args.now)) }
 {
     match args.split_first() {
         None => Ok(()),
@@ -45,7 +47,9 @@ pub(crate) fn push_arg_types(out: &mut String, args: &[Arg]) -> Result<(), Alloc
 
 #[tactic(auto, using(crate::proofs::Commas::behind_more_parts))]
 fn push_more_arg_types(out: &mut String, args: &[Arg]) -> Result<(), AllocError>
-    ensures { OnOk result (string_bytes out.new ≡ string_bytes out.old ++ behind_commas (map type_text (map (λ arg. arg.ty) args.now))) }
+    ensures { OnOk result
+        (string_bytes out.new ≡ string_bytes out.old
+        ++ behind_commas (map type_text (map (λ arg. arg.ty) args.now))) }
 {
     for arg in args {
         write!(out, ", ")?;
@@ -66,7 +70,8 @@ pub(crate) fn push_results(out: &mut String, types: &[IrType]) -> Result<(), All
 
 /// Adds types in brackets.
 pub(crate) fn push_bracketed(out: &mut String, types: &[IrType]) -> Result<(), AllocError>
-    ensures { OnOk result (string_bytes out.new ≡ string_bytes out.old ++ bracketed (types_text types.now)) }
+    ensures { OnOk result
+        (string_bytes out.new ≡ string_bytes out.old ++ bracketed (types_text types.now)) }
 {
     write!(out, "(")?;
     push_types(out, types)?;
@@ -106,7 +111,8 @@ fn push_arg(out: &mut String, arg: &Arg) -> Result<(), AllocError>
 
 #[tactic(auto, using(crate::proofs::Commas::behind_more))]
 fn push_more_args(out: &mut String, args: &[Arg]) -> Result<(), AllocError>
-    ensures { OnOk result (string_bytes out.new ≡ string_bytes out.old ++ behind_commas (map arg_text args.now)) }
+    ensures { OnOk result
+        (string_bytes out.new ≡ string_bytes out.old ++ behind_commas (map arg_text args.now)) }
 {
     for arg in args {
         write!(out, ", ")?;
@@ -117,7 +123,9 @@ fn push_more_args(out: &mut String, args: &[Arg]) -> Result<(), AllocError>
 
 /// Adds arguments with their types in brackets.
 pub(crate) fn push_args(out: &mut String, args: &[Arg]) -> Result<(), AllocError>
-    ensures { OnOk result (string_bytes out.new ≡ string_bytes out.old ++ bracketed (joined (map arg_text args.now))) }
+    ensures { OnOk result
+        (string_bytes out.new ≡ string_bytes out.old
+        ++ bracketed (joined (map arg_text args.now))) }
 {
     write!(out, "(")?;
     if let Some((first, more)) = args.split_first() {
@@ -142,7 +150,8 @@ fn push_pack(out: &mut String, pack: &Pack) -> Result<(), AllocError>
 
 #[tactic(auto, using(crate::proofs::Commas::behind_more))]
 fn push_more_packs(out: &mut String, packs: &[Pack]) -> Result<(), AllocError>
-    ensures { OnOk result (string_bytes out.new ≡ string_bytes out.old ++ behind_commas (map pack_text packs.now)) }
+    ensures { OnOk result
+        (string_bytes out.new ≡ string_bytes out.old ++ behind_commas (map pack_text packs.now)) }
 {
     for pack in packs {
         write!(out, ", ")?;

@@ -35,7 +35,8 @@ impl<'a> Model for Names<'a> {
 
     ghost Value = { Naming };
 
-    ghost view = { λ n. record { values = rows_values n.func 0 n.rows.items; funcs = map (λ f. f.name) n.funcs.now } };
+    ghost view = { λ n. record
+        { values = rows_values n.func 0 n.rows.items; funcs = map (λ f. f.name) n.funcs.now } };
 
     ghost invariant = { λ n. AreWithin n.rows.items };
 }

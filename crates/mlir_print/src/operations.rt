@@ -22,7 +22,9 @@ pub(crate) fn push_ops<'x>(
     depth: &'x Depth<'x>,
     ops: &[Op],
 ) -> Result<(), AllocError>
-    ensures { OnOk result (string_bytes out.new ≡ string_bytes out.old ++ ops_lines names.now (depth_of depth.now) ops.now) }
+    ensures { OnOk result
+        (string_bytes out.new ≡ string_bytes out.old
+        ++ ops_lines names.now (depth_of depth.now) ops.now) }
 {
     for op in ops {
         push_op(out, names, depth, op)?;
@@ -38,7 +40,10 @@ fn push_op<'x>(
     depth: &'x Depth<'x>,
     op: &Op,
 ) -> Result<(), AllocError>
-    ensures { OnOk result (string_bytes out.new ≡ string_bytes out.old ++ op_text names.now (depth_of depth.now) (packs_text op.now.packs) op.now.results op.now.kind) }
+    ensures { OnOk result
+        (string_bytes out.new ≡ string_bytes out.old
+        ++ op_text names.now (depth_of depth.now)
+        (packs_text op.now.packs) op.now.results op.now.kind) }
 {
     push_blanks(out, depth)?;
     push_packs(out, op.packs.as_slice())?;
@@ -55,7 +60,10 @@ fn push_kind<'x>(
     results: &[IrType],
     kind: &Kind,
 ) -> Result<(), AllocError>
-    ensures { OnOk result ((front packs : List ℕ) → string_bytes out.old ≡ front ++ replicate (2 * depth_of depth.now) 32 ++ packs → string_bytes out.new ≡ front ++ op_text names.now (depth_of depth.now) packs results.now kind.now) }
+    ensures { OnOk result
+        ((front packs : List ℕ) → string_bytes out.old ≡ front
+        ++ replicate (2 * depth_of depth.now) 32 ++ packs → string_bytes out.new ≡ front
+        ++ op_text names.now (depth_of depth.now) packs results.now kind.now) }
 {
     match kind {
         Kind::If(c, first, other) => {
@@ -88,7 +96,9 @@ fn push_arm<'x>(
     depth: &'x Depth<'x>,
     region: &Region,
 ) -> Result<(), AllocError>
-    ensures { OnOk result (string_bytes out.new ≡ string_bytes out.old ++ region_text names.now (depth_of depth.now + 1) region.now) }
+    ensures { OnOk result
+        (string_bytes out.new ≡ string_bytes out.old
+        ++ region_text names.now (depth_of depth.now + 1) region.now) }
 {
     let inside = Depth::Inside(&*depth);
     push_ops(out, names, &inside, region.ops.as_slice())?;
@@ -104,7 +114,10 @@ fn push_for<'x>(
     results: &[IrType],
     parts: &ForParts,
 ) -> Result<(), AllocError>
-    ensures { OnOk result ((front packs : List ℕ) → string_bytes out.old ≡ front ++ replicate (2 * depth_of depth.now) 32 ++ packs → string_bytes out.new ≡ front ++ for_text names.now (depth_of depth.now) packs results.now parts.now) }
+    ensures { OnOk result
+        ((front packs : List ℕ) → string_bytes out.old ≡ front
+        ++ replicate (2 * depth_of depth.now) 32 ++ packs → string_bytes out.new ≡ front
+        ++ for_text names.now (depth_of depth.now) packs results.now parts.now) }
 {
     push_for_head(out, names, results, parts)?;
     push_arm(out, names, depth, &parts.body)?;
@@ -120,7 +133,10 @@ fn push_while<'x>(
     results: &[IrType],
     parts: &WhileParts,
 ) -> Result<(), AllocError>
-    ensures { OnOk result ((front packs : List ℕ) → string_bytes out.old ≡ front ++ replicate (2 * depth_of depth.now) 32 ++ packs → string_bytes out.new ≡ front ++ while_text names.now (depth_of depth.now) packs results.now parts.now) }
+    ensures { OnOk result
+        ((front packs : List ℕ) → string_bytes out.old ≡ front
+        ++ replicate (2 * depth_of depth.now) 32 ++ packs → string_bytes out.new ≡ front
+        ++ while_text names.now (depth_of depth.now) packs results.now parts.now) }
 {
     push_while_head(out, names, results, parts)?;
     push_before(out, names, depth, parts.cond, &parts.before)?;
@@ -140,7 +156,9 @@ fn push_before<'x>(
     cond: Label,
     region: &Region,
 ) -> Result<(), AllocError>
-    ensures { OnOk result (string_bytes out.new ≡ string_bytes out.old ++ before_text names.now (depth_of depth.now + 1) cond region.now) }
+    ensures { OnOk result
+        (string_bytes out.new ≡ string_bytes out.old
+        ++ before_text names.now (depth_of depth.now + 1) cond region.now) }
 {
     let inside = Depth::Inside(&*depth);
     push_ops(out, names, &inside, region.ops.as_slice())?;
@@ -156,7 +174,9 @@ fn push_after<'x>(
     depth: &'x Depth<'x>,
     region: &Region,
 ) -> Result<(), AllocError>
-    ensures { OnOk result (string_bytes out.new ≡ string_bytes out.old ++ after_text names.now (depth_of depth.now + 1) region.now) }
+    ensures { OnOk result
+        (string_bytes out.new ≡ string_bytes out.old
+        ++ after_text names.now (depth_of depth.now + 1) region.now) }
 {
     let inside = Depth::Inside(&*depth);
     push_ops(out, names, &inside, region.ops.as_slice())?;

@@ -13,7 +13,9 @@ use std::alloc::AllocError;
 
 /// Adds two used values, parted by a comma and a blank.
 fn push_pair(out: &mut String, names: &Names<'_>, a: Label, b: Label) -> Result<(), AllocError>
-    ensures { OnOk result (string_bytes out.new ≡ string_bytes out.old ++ (use_text names.now a ++ codes ", " ++ use_text names.now b)) }
+    ensures { OnOk result
+        (string_bytes out.new ≡ string_bytes out.old
+        ++ (use_text names.now a ++ codes ", " ++ use_text names.now b)) }
 {
     push_use(out, names, a)?;
     write!(out, ", ")?;
@@ -22,7 +24,9 @@ fn push_pair(out: &mut String, names: &Names<'_>, a: Label, b: Label) -> Result<
 
 /// Adds flags and the types of results.
 fn push_typed(out: &mut String, flags: &str, results: &[IrType]) -> Result<(), AllocError>
-    ensures { OnOk result (string_bytes out.new ≡ string_bytes out.old ++ (flags.now ++ codes " : " ++ types_text results.now)) }
+    ensures { OnOk result
+        (string_bytes out.new ≡ string_bytes out.old
+        ++ (flags.now ++ codes " : " ++ types_text results.now)) }
 {
     write!(out, "{flags} : ")?;
     push_types(out, results)
@@ -35,7 +39,10 @@ fn push_bin(
     a: Label,
     b: Label,
 ) -> Result<(), AllocError>
-    ensures { OnOk result (string_bytes out.new ≡ string_bytes out.old ++ (bin_text op ++ codes " " ++ use_text names.now a ++ codes ", " ++ use_text names.now b)) }
+    ensures { OnOk result
+        (string_bytes out.new ≡ string_bytes out.old
+        ++ (bin_text op ++ codes " " ++ use_text names.now a ++ codes ", "
+        ++ use_text names.now b)) }
 {
     let word = bin_word(op);
     write!(out, "{word} ")?;
@@ -50,7 +57,9 @@ fn push_cast(
     flags: Flags,
     a: Label,
 ) -> Result<(), AllocError>
-    ensures { OnOk result (string_bytes out.new ≡ string_bytes out.old ++ simple_text names.now results.now (Kind.Cast op flags a)) }
+    ensures { OnOk result
+        (string_bytes out.new ≡ string_bytes out.old
+        ++ simple_text names.now results.now (Kind.Cast op flags a)) }
 {
     let word = cast_word(op);
     write!(out, "{word} ")?;
@@ -69,7 +78,9 @@ fn push_cmp(
     a: Label,
     b: Label,
 ) -> Result<(), AllocError>
-    ensures { OnOk result (string_bytes out.new ≡ string_bytes out.old ++ simple_text names.now [] (Kind.Cmp pred a b)) }
+    ensures { OnOk result
+        (string_bytes out.new ≡ string_bytes out.old
+        ++ simple_text names.now [] (Kind.Cmp pred a b)) }
 {
     let word = pred_word(pred);
     write!(out, "arith.cmpi {word}, ")?;
@@ -87,7 +98,9 @@ fn push_select(
     a: Label,
     b: Label,
 ) -> Result<(), AllocError>
-    ensures { OnOk result (string_bytes out.new ≡ string_bytes out.old ++ simple_text names.now results.now (Kind.Select c a b)) }
+    ensures { OnOk result
+        (string_bytes out.new ≡ string_bytes out.old
+        ++ simple_text names.now results.now (Kind.Select c a b)) }
 {
     write!(out, "arith.select ")?;
     push_use(out, names, c)?;
@@ -100,7 +113,8 @@ fn push_select(
 /// Adds the name of the function with that index.
 #[tactic(auto, using(crate::proofs::Texts::func_name, crate::proofs::Texts::no_func_name))]
 fn push_callee(out: &mut String, names: &Names<'_>, func: u16) -> Result<(), AllocError>
-    ensures { OnOk result (string_bytes out.new ≡ string_bytes out.old ++ slice_index_or names.now.funcs func []) }
+    ensures { OnOk result
+        (string_bytes out.new ≡ string_bytes out.old ++ slice_index_or names.now.funcs func []) }
 {
     let funcs = names.funcs();
     let at = func as usize;
@@ -113,7 +127,10 @@ fn push_callee(out: &mut String, names: &Names<'_>, func: u16) -> Result<(), All
 
 /// Adds the values that a call passes, with their types.
 fn push_passed(out: &mut String, names: &Names<'_>, uses: &[Label]) -> Result<(), AllocError>
-    ensures { OnOk result (string_bytes out.new ≡ string_bytes out.old ++ (bracketed (uses_text names.now uses.now) ++ codes " : " ++ bracketed (used_types names.now uses.now))) }
+    ensures { OnOk result
+        (string_bytes out.new ≡ string_bytes out.old
+        ++ (bracketed (uses_text names.now uses.now) ++ codes " : "
+        ++ bracketed (used_types names.now uses.now))) }
 {
     write!(out, "(")?;
     push_uses(out, names, uses)?;
@@ -129,7 +146,9 @@ fn push_call(
     func: u16,
     uses: &[Label],
 ) -> Result<(), AllocError>
-    ensures { OnOk result (string_bytes out.new ≡ string_bytes out.old ++ simple_text names.now results.now (Kind.Call func uses.now)) }
+    ensures { OnOk result
+        (string_bytes out.new ≡ string_bytes out.old
+        ++ simple_text names.now results.now (Kind.Call func uses.now)) }
 {
     write!(out, "func.call @")?;
     push_callee(out, names, func)?;
@@ -146,7 +165,9 @@ pub(crate) fn push_simple(
     results: &[IrType],
     kind: &Kind,
 ) -> Result<(), AllocError>
-    ensures { OnOk result (string_bytes out.new ≡ string_bytes out.old ++ simple_text names.now results.now kind.now) }
+    ensures { OnOk result
+        (string_bytes out.new ≡ string_bytes out.old
+        ++ simple_text names.now results.now kind.now) }
 {
     match kind {
         Kind::Const(v) => push_constant(out, results, *v),

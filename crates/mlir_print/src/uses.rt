@@ -13,7 +13,9 @@ use std::alloc::AllocError;
 
 /// Adds the name of the value in a slot; behind a name of several results, which of them it is.
 fn push_slot(out: &mut String, slot: &Slot<'_>) -> Result<(), AllocError>
-    ensures { OnOk result ((label : ℕ) → string_bytes out.new ≡ string_bytes out.old ++ option_map_or value_text (slot_value label slot.now) []) }
+    ensures { OnOk result
+        ((label : ℕ) → string_bytes out.new ≡ string_bytes out.old
+        ++ option_map_or value_text (slot_value label slot.now) []) }
 {
     match slot {
         Slot::Empty => Ok(()),
@@ -34,7 +36,9 @@ fn push_slot(out: &mut String, slot: &Slot<'_>) -> Result<(), AllocError>
 
 /// Adds the type of the value in a slot.
 fn push_slot_type(out: &mut String, slot: &Slot<'_>) -> Result<(), AllocError>
-    ensures { OnOk result ((label : ℕ) → string_bytes out.new ≡ string_bytes out.old ++ option_map_or type_text (option_map (λ v. v.ty) (slot_value label slot.now)) []) }
+    ensures { OnOk result
+        ((label : ℕ) → string_bytes out.new ≡ string_bytes out.old
+        ++ option_map_or type_text (option_map (λ v. v.ty) (slot_value label slot.now)) []) }
 {
     match slot {
         Slot::Empty => Ok(()),
@@ -45,7 +49,8 @@ fn push_slot_type(out: &mut String, slot: &Slot<'_>) -> Result<(), AllocError>
 
 /// Adds the name of a used value.
 pub(crate) fn push_use(out: &mut String, names: &Names<'_>, label: Label) -> Result<(), AllocError>
-    ensures { OnOk result (string_bytes out.new ≡ string_bytes out.old ++ use_text names.now label) }
+    ensures { OnOk result
+        (string_bytes out.new ≡ string_bytes out.old ++ use_text names.now label) }
 {
     match names.slot(label) {
         None => Ok(()),
@@ -59,7 +64,8 @@ pub(crate) fn push_used_type(
     names: &Names<'_>,
     label: Label,
 ) -> Result<(), AllocError>
-    ensures { OnOk result (string_bytes out.new ≡ string_bytes out.old ++ used_type names.now label) }
+    ensures { OnOk result
+        (string_bytes out.new ≡ string_bytes out.old ++ used_type names.now label) }
 {
     match names.slot(label) {
         None => Ok(()),
@@ -69,7 +75,9 @@ pub(crate) fn push_used_type(
 
 #[tactic(auto, using(crate::proofs::Commas::behind_more))]
 fn push_more_uses(out: &mut String, names: &Names<'_>, labels: &[Label]) -> Result<(), AllocError>
-    ensures { OnOk result (string_bytes out.new ≡ string_bytes out.old ++ behind_commas (map (use_text names.now) labels.now)) }
+    ensures { OnOk result
+        (string_bytes out.new ≡ string_bytes out.old
+        ++ behind_commas (map (use_text names.now) labels.now)) }
 {
     for label in labels {
         write!(out, ", ")?;
@@ -84,7 +92,8 @@ pub(crate) fn push_uses(
     names: &Names<'_>,
     labels: &[Label],
 ) -> Result<(), AllocError>
-    ensures { OnOk result (string_bytes out.new ≡ string_bytes out.old ++ uses_text names.now labels.now) }
+    ensures { OnOk result
+        (string_bytes out.new ≡ string_bytes out.old ++ uses_text names.now labels.now) }
 {
     match labels.split_first() {
         None => Ok(()),
@@ -101,7 +110,9 @@ fn push_more_used_types(
     names: &Names<'_>,
     labels: &[Label],
 ) -> Result<(), AllocError>
-    ensures { OnOk result (string_bytes out.new ≡ string_bytes out.old ++ behind_commas (map (used_type names.now) labels.now)) }
+    ensures { OnOk result
+        (string_bytes out.new ≡ string_bytes out.old
+        ++ behind_commas (map (used_type names.now) labels.now)) }
 {
     for label in labels {
         write!(out, ", ")?;
@@ -116,7 +127,8 @@ pub(crate) fn push_used_types(
     names: &Names<'_>,
     labels: &[Label],
 ) -> Result<(), AllocError>
-    ensures { OnOk result (string_bytes out.new ≡ string_bytes out.old ++ used_types names.now labels.now) }
+    ensures { OnOk result
+        (string_bytes out.new ≡ string_bytes out.old ++ used_types names.now labels.now) }
 {
     match labels.split_first() {
         None => Ok(()),
@@ -133,7 +145,8 @@ pub(crate) fn push_ends(
     names: &Names<'_>,
     labels: &[Label],
 ) -> Result<(), AllocError>
-    ensures { OnOk result (string_bytes out.new ≡ string_bytes out.old ++ ends_text names.now labels.now) }
+    ensures { OnOk result
+        (string_bytes out.new ≡ string_bytes out.old ++ ends_text names.now labels.now) }
 {
     if labels.is_empty() {
         return Ok(());
@@ -146,7 +159,8 @@ pub(crate) fn push_ends(
 
 /// Adds an argument of a loop with its first value.
 fn push_init(out: &mut String, names: &Names<'_>, arg: &Arg, init: Label) -> Result<(), AllocError>
-    ensures { OnOk result (string_bytes out.new ≡ string_bytes out.old ++ init_text names.now (arg.now, init)) }
+    ensures { OnOk result
+        (string_bytes out.new ≡ string_bytes out.old ++ init_text names.now (arg.now, init)) }
 {
     let name = &arg.name;
     write!(out, "%{name} = ")?;
@@ -160,7 +174,9 @@ fn push_more_inits(
     args: &[Arg],
     inits: &[Label],
 ) -> Result<(), AllocError>
-    ensures { OnOk result (string_bytes out.new ≡ string_bytes out.old ++ behind_commas (map (init_text names.now) (zip args.now inits.now))) }
+    ensures { OnOk result
+        (string_bytes out.new ≡ string_bytes out.old
+        ++ behind_commas (map (init_text names.now) (zip args.now inits.now))) }
 {
     for k in 0..args.len().min(inits.len()) {
         write!(out, ", ")?;
@@ -176,7 +192,8 @@ pub(crate) fn push_inits(
     args: &[Arg],
     inits: &[Label],
 ) -> Result<(), AllocError>
-    ensures { OnOk result (string_bytes out.new ≡ string_bytes out.old ++ inits_text names.now args.now inits.now) }
+    ensures { OnOk result
+        (string_bytes out.new ≡ string_bytes out.old ++ inits_text names.now args.now inits.now) }
 {
     write!(out, "(")?;
     if let [arg, more_args @ ..] = args {

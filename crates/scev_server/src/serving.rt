@@ -42,7 +42,8 @@ pub fn serve<R: Threads + Sync, S: Source, K: Sink, G: Gate + Sync>(
     // A fault of this call, and not of an earlier one.
     ensures read_fault { result ≡ Status.ReadFault → Rose (S.faults src.old) (S.faults src.new) }
     ensures write_fault { result ≡ Status.WriteFault → Rose (K.faults out.old) (K.faults out.new) }
-    ensures written_part { result ≡ Status.WriteFault → (accepted : Bool) × (read : List ℕ) × (text : List ℕ) × (n : ℕ)
+    ensures written_part { result ≡ Status.WriteFault → (accepted : Bool) × (read : List ℕ)
+        × (text : List ℕ) × (n : ℕ)
         × ReadToEnd (S.left src.old) (S.left src.new) read
         × IsReply accepted read text
         × (n < length text)
@@ -54,7 +55,9 @@ pub fn serve<R: Threads + Sync, S: Source, K: Sink, G: Gate + Sync>(
     ensures short { result ≢ Status.TooLong → result ≢ Status.NoMemory
         → HasTaken input_limit (S.left src.old) (S.left src.new) }
     // Where the source tells its bytes, no words are given and no fault comes, the bytes decide.
-    ensures complete { options_of (map string_bytes words.now) ≢ None → ¬ Rose (S.faults src.old) (S.faults src.new) → ¬ Rose (K.faults out.old) (K.faults out.new)
+    ensures complete { options_of (map string_bytes words.now) ≢ None
+        → ¬ Rose (S.faults src.old) (S.faults src.new)
+        → ¬ Rose (K.faults out.old) (K.faults out.new)
         → IfSome (S.left src.old) (λ bytes. CallsFor bytes result) }
     ensures read_count { S.faults src.old ≤ S.faults src.new }
     ensures write_count { K.faults out.old ≤ K.faults out.new }

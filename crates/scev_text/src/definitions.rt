@@ -82,7 +82,8 @@ impl<'a> Definitions<'a> {
     fn define(&mut self, name: &'a [u8], first: PackValue) -> Result<usize, AllocError>
         requires { count_in self.old name.now + 1 < 2 ^ 64 }
         ensures counts { OnOk result ((q : List ℕ) → count_in self.new q
-            ≡ (if bytes_eq name.now q then count_in self.old name.now + 1 else count_in self.old q)) }
+            ≡ (if bytes_eq name.now q then count_in self.old name.now
+            + 1 else count_in self.old q)) }
         ensures firsts { OnOk result ((q : List ℕ) (n : ℕ) → definition_in self.new q n
             ≡ (if bytes_eq name.now q && count_in self.old name.now + 1 == n then Some first
             else definition_in self.old q n)) }
@@ -99,7 +100,10 @@ impl<'a> Definitions<'a> {
     fn add(&mut self, name: &'a [u8], value: PackValue, place: usize) -> Result<(), AllocError>
         requires label { value.label.0 < 2 ^ 32 }
         requires kept { (values : List Value) × AreKept self.old value.label.0 values }
-        ensures { OnOk result ((values : List Value) (ty : IrType) → AreKept self.old value.label.0 values → AreKept self.new (value.label.0 + 1) (values ++ value_of name.now value place ty ∷ [])) }
+        ensures { OnOk result
+            ((values : List Value) (ty : IrType) → AreKept self.old value.label.0 values
+            → AreKept self.new (value.label.0 + 1)
+            (values ++ value_of name.now value place ty ∷ [])) }
     {
         if place == 0 {
             let nth = self.define(name, value)?;
@@ -114,7 +118,9 @@ impl<'a> Definitions<'a> {
     fn add_slot(&mut self, label: Label, slot: &Slot<'a>) -> Result<(), AllocError>
         requires label { label.0 < 2 ^ 32 }
         requires kept { (values : List Value) × AreKept self.old label.0 values }
-        ensures { OnOk result ((values : List Value) → AreKept self.old label.0 values → AreKept self.new (label.0 + 1) (values ++ values_in label.0 slot.now)) }
+        ensures { OnOk result
+            ((values : List Value) → AreKept self.old label.0 values
+            → AreKept self.new (label.0 + 1) (values ++ values_in label.0 slot.now)) }
     {
         match slot {
             Slot::Empty => Ok(()),
@@ -134,7 +140,10 @@ impl<'a> Definitions<'a> {
         requires number { number < item_count }
         requires short { IsShort row.now }
         requires kept { (values : List Value) × AreKept self.old (label_at func number 0) values }
-        ensures { OnOk result ((values : List Value) → AreKept self.old (label_at func number 0) values → AreKept self.new (label_at func number 0 + length row.now) (values ++ slot_values (label_at func number 0) row.now)) }
+        ensures { OnOk result
+            ((values : List Value) → AreKept self.old (label_at func number 0) values
+            → AreKept self.new (label_at func number 0 + length row.now)
+            (values ++ slot_values (label_at func number 0) row.now)) }
     {
         for (index, slot) in row.iter().enumerate() {
             self.add_slot(Label::new(func, number, index), slot)?;

@@ -17,7 +17,8 @@ pub struct LoopNumbers {
 impl LoopNumbers {
     /// The numbers of loops, from 0 in their order.
     pub fn new(alloc: Global, loops: &[LoopLabels]) -> Result<LoopNumbers, AllocError>
-        ensures { IfOk result (λ known. (label : ℕ) → loop_in known label ≡ loop_number loops.now label) }
+        ensures { IfOk result
+            (λ known. (label : ℕ) → loop_in known label ≡ loop_number loops.now label) }
     {
         let mut known = LoopNumbers {
             numbers: HashMap::new(alloc),
@@ -30,7 +31,10 @@ impl LoopNumbers {
 
     /// Adds a loop, unless one with that counter has a number.
     fn add(&mut self, counter: Label, number: usize) -> Result<(), AllocError>
-        ensures { OnOk result ((label : ℕ) → loop_in self.new label ≡ option_or (loop_in self.old label) (if counter.0 == label then Some number else None)) }
+        ensures { OnOk result
+            ((label : ℕ) → loop_in self.new label
+            ≡ option_or (loop_in self.old label)
+            (if counter.0 == label then Some number else None)) }
     {
         match self.numbers.get(&counter.0) {
             Some(_) => Ok(()),

@@ -35,7 +35,9 @@ impl<'a> Model for ValueNames<'a> {
 
 /// Adds the name of definition `nth`, from 1, which is said from the second definition on.
 fn push_name(out: &mut String, name: &Text, nth: usize) -> Result<(), AllocError>
-    ensures { OnOk result (string_bytes out.new ≡ string_bytes out.old ++ codes "%" ++ name.now ++ (if nat_lt 1 nth then codes "!" ++ decimal nth else [])) }
+    ensures { OnOk result
+        (string_bytes out.new ≡ string_bytes out.old ++ codes "%" ++ name.now
+        ++ (if nat_lt 1 nth then codes "!" ++ decimal nth else [])) }
 {
     write!(out, "%{name}")?;
     if nth > 1 {
@@ -86,7 +88,8 @@ impl<'a> ValueNames<'a> {
 
     /// Adds the name of the value with that label; nothing where there is none.
     pub fn push_symbol(&self, out: &mut String, label: Label) -> Result<(), AllocError>
-        ensures { OnOk result (string_bytes out.new ≡ string_bytes out.old ++ symbol_text self.now.values label.0) }
+        ensures { OnOk result
+            (string_bytes out.new ≡ string_bytes out.old ++ symbol_text self.now.values label.0) }
     {
         match self.names.slot(label) {
             Some(Slot::Argument(arg)) => push_name(out, &arg.name, self.definitions.number(label)),
@@ -104,7 +107,8 @@ impl<'a> ValueNames<'a> {
 
     /// Adds the number of the loop with that counter behind `#`; no number where there is none.
     pub fn push_loop(&self, out: &mut String, counter: Label) -> Result<(), AllocError>
-        ensures { OnOk result (string_bytes out.new ≡ string_bytes out.old ++ loop_text self.now.loops counter.0) }
+        ensures { OnOk result
+            (string_bytes out.new ≡ string_bytes out.old ++ loop_text self.now.loops counter.0) }
     {
         write!(out, "#")?;
         match self.numbers.get(counter) {
