@@ -6,7 +6,7 @@ use Rattle.mlir_ir.specs.ScopeFaults.{Break, IsFirstBreak, counts_before, rank}
 use Rattle.mlir_scope.specs.Noted.{noted, as_break, as_fault}
 use Rattle.mlir_scope.specs.declared.first.ScopeFault.{ScopeFault}
 
-abbrev ahead_of : ℕ → ℕ → ℕ → ℕ → Bool
+abbrev pub ahead_of : ℕ → ℕ → ℕ → ℕ → Bool
 ahead_of a r b s = nat_lt a b || a == b && nat_le r s
 
 self_ahead : (a r : ℕ) → ahead_of a r a r ≡ true
@@ -15,10 +15,10 @@ self_ahead a r = grind (arith, nat_tests)
 all_ahead : (a r b s c t : ℕ) → ahead_of a r b s ≡ true → ahead_of b s c t ≡ true → ahead_of a r c t ≡ true
 all_ahead a r b s c t h g = grind (arith, nat_tests)
 
-other_ahead : (a r b s : ℕ) → ahead_of a r b s ≡ false → ahead_of b s a r ≡ true
+pub other_ahead : (a r b s : ℕ) → ahead_of a r b s ≡ false → ahead_of b s a r ≡ true
 other_ahead a r b s h = grind (arith, nat_tests)
 
-before_all : (a b c : Break) → counts_before a b ≡ true → counts_before b c ≡ true → counts_before a c ≡ true
+pub before_all : (a b c : Break) → counts_before a b ≡ true → counts_before b c ≡ true → counts_before a c ≡ true
 before_all a b c h g = all_ahead a.at (rank a.kind) b.at (rank b.kind) c.at (rank c.kind) h g
 
 -- a break is one of these or that one, and counts before all of them

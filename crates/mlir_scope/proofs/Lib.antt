@@ -2,6 +2,7 @@ pub mod Parted
 pub mod Numbered
 pub mod Blocked
 pub mod TypeWords
+pub mod TokenTerminals
 pub mod Caps
 pub mod Notes
 pub mod Repeats
@@ -12,6 +13,9 @@ pub mod Tests
 pub mod NoBreaks
 pub mod ResolvedNames
 pub mod ScopeUses
+pub mod UsesFound
+pub mod NotedOrder
+pub mod OwnUses
 pub mod OpParts
 pub mod PlainValues
 pub mod Shapes

@@ -1,5 +1,5 @@
 -- Names that are defined a second time.
-use Rattle.std.proofs.lemmas.List.{take-append-le}
+use Rattle.std.proofs.lemmas.List.{append-nil, take-append-le}
 use Rattle.mlir_scope.specs.declared.first.ScopeFault.{ScopeFault}
 use Rattle.mlir_scope.specs.Noted.{noted}
 use Rattle.mlir_scope.proofs.Notes.{noted_more}
@@ -67,3 +67,9 @@ pub kept_before : {X : Type 0} (len : ℕ) (all new : List X) (x : X) → new �
 kept_before len all new x is h =
     let longer : length new ≡ length all + 1 = ap length is ∙ length-append all (x ∷ []) in
     (ap (take len) is ∙ take-append-le len all (x ∷ []) h, omega arith)
+
+-- one definition alone
+pub repeated_one : (best more : Option ScopeFault) (scope : List Value) (d : Defined) (taken : Bool)
+    → taken ≡ has_name scope d.name → more ≡ noted best (broken taken d.at Twice) → more ≡ noted best (repeated (names_of scope) (d ∷ []))
+repeated_one best more scope d taken test_is noted_is =
+    noted_is ∙ ap (noted best) (ap (λ t. broken t d.at Twice) (test_is ∙ sym (defined_has d.name scope)) ∙ sym (append-nil (broken (is_defined d.name (names_of scope)) d.at Twice)))

@@ -15,9 +15,10 @@ use Rattle.mlir_ir.specs.Source.{Block, block}
 use Rattle.mlir_ir.specs.Values.{Value, arg_values}
 use Rattle.mlir_ir.specs.declared.token.Token.{Token}
 use Rattle.mlir_scope.specs.Noted.{noted}
-use Rattle.mlir_scope.specs.TextParts.{module_breaks}
+use Rattle.mlir_scope.specs.TextParts.{list_breaks, module_breaks}
 use Rattle.mlir_scope.specs.Walks.{return_breaks}
 use Rattle.mlir_scope.specs.declared.first.ScopeFault.{ScopeFault}
+use Rattle.mlir_scope.proofs.NotedOrder.{noted_swap}
 use Rattle.mlir_scope.proofs.Notes.{noted_append, noted_two, noted_three, noted_four}
 
 -- the limits, the operations and the returned values of a body
@@ -55,6 +56,23 @@ text_noted tokens text funcs best one two three is f g h =
     let first : two ≡ noted best (((a ++ b) ++ c) ++ d) = noted_four best one (noted one b) (noted (noted one b) c) two a b c d f refl refl later in
     noted_two best two three (((a ++ b) ++ c) ++ d) e first h
     ∙ ap (λ (fs : List Line). noted best ((((long_names 0 tokens ++ over 256 (map (λ (l : Line). l.at) fs)) ++ over 65536 (flat_map func_op_tokens fs)) ++ repeated [] (func_names fs)) ++ flat_map (func_breaks fs) fs)) is
+
+-- the same, where the number of operations is noted last
+pub text_noted_late : (tokens : List Token) (text : Phrase) (funcs : List Line) (best one two three four : Option ScopeFault)
+    → funcs ≡ func_lines text
+    → one ≡ noted best (long_names 0 tokens) → two ≡ noted one (list_breaks funcs) → three ≡ noted two (flat_map (func_breaks funcs) funcs)
+    → four ≡ noted three (over 65536 (flat_map func_op_tokens funcs))
+    → four ≡ noted best (text_breaks tokens text)
+text_noted_late tokens text funcs best one two three four is f g h k =
+    let b = over 256 (map (λ (l : Line). l.at) funcs) in
+    let c = over 65536 (flat_map func_op_tokens funcs) in
+    let d = repeated [] (func_names funcs) in
+    let e = flat_map (func_breaks funcs) funcs in
+    let o = noted one b in
+    let third : three ≡ noted o (d ++ e) = h ∙ ap (λ p. noted p e) (g ∙ noted_append one b d) ∙ sym (noted_append o d e) in
+    let last : four ≡ noted (noted (noted o c) d) e = k ∙ ap (λ p. noted p c) third ∙ noted_swap o (d ++ e) c ∙ noted_append (noted o c) d e in
+    let counted : noted (noted o c) d ≡ noted one (module_breaks funcs) = sym (noted_append one (b ++ c) d ∙ ap (λ p. noted p d) (noted_append one b c)) in
+    text_noted tokens text funcs best one (noted one (module_breaks funcs)) four is f refl (last ∙ ap (λ p. noted p e) counted)
 
 -- the operations of one function more
 pub op_tokens_step : (all rest : List Line) (f : Line) (old new : List ℕ) → all ≡ f ∷ rest → new ≡ old ++ func_op_tokens f

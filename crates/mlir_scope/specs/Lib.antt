@@ -17,3 +17,4 @@ pub mod Knowns
 pub mod Built
 pub mod BuiltFunctions
 pub mod Unresolved
+pub mod Owns

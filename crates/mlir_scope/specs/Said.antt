@@ -2,6 +2,7 @@
 use Rattle.std.specs.Prelude.{List}
 use Rattle.mlir_ir.specs.Phrases as phrases
 use Rattle.mlir_ir.specs.Phrases.{Phrase, token, line, phrase_of}
+use Rattle.mlir_ir.specs.Terminals.{terminal_of}
 use Rattle.mlir_ir.specs.Trees.{forest}
 use Rattle.mlir_ir.specs.declared.syntax.Branch.{Branch}
 use Rattle.mlir_ir.specs.declared.token.Token.{Token}
@@ -15,7 +16,7 @@ abbrev pub said : List Token → List Branch → Phrase
 said tokens branches = phrase_of tokens (forest branches)
 
 abbrev pub with_part : List Token → Part → Phrase → Phrase
-with_part tokens (parts.Single at c text) rest = token at c text.now rest
+with_part tokens (parts.Single at t) rest = token at (terminal_of t.now) t.now.text rest
 with_part tokens (parts.Line form at inner) rest = line form at (said tokens inner.now) rest
 
 abbrev pub spot_said : Spot → phrases.Spot

@@ -15,3 +15,7 @@ module_breaks funcs =
     over func_limit (map (λ (f : Line). f.at) funcs)
     ++ over module_op_limit (flat_map func_op_tokens funcs)
     ++ repeated [] (func_names funcs)
+
+-- what they break besides the number of their operations
+abbrev pub list_breaks : List Line → List Break
+list_breaks funcs = over func_limit (map (λ (f : Line). f.at) funcs) ++ repeated [] (func_names funcs)

@@ -33,7 +33,8 @@ pub(crate) struct ForHeader {
 /// The type of an induction variable: the one that is written, or `index`.
 #[tactic(auto, using(crate::proofs::FirstTypes::first_written))]
 fn variable_type(alloc: Global, tokens: &[Token], kind: &[Branch]) -> Result<ValueType, Unbuilt>
-    ensures { IfOk result (λ ty. type_said ty ≡ resolved.variable_type (source.types_in (said tokens.now kind.now))) }
+    ensures { IfOk result
+        (λ ty. type_said ty ≡ resolved.variable_type (source.types_in (said tokens.now kind.now))) }
 {
     let types = own_types(alloc, tokens, kind)?;
     Ok(first_of(&types))
@@ -62,9 +63,15 @@ pub(crate) fn for_header<'a>(
     kind: &'a [Branch],
     types: &[ValueType],
 ) -> Result<ForHeader, Unbuilt>
-    ensures built { IfOk result (λ header. header ≡ built.for_header (scope_at place.old) (said tokens.now kind.now) (map type_said types.now)) }
-    ensures scope { IfOk result (λ header. scope_at place.new ≡ scope_at place.old ++ values.arg_values (place.old.next + 1) (header.iv ∷ header.args)) }
-    ensures next { IfOk result (λ header. place.new.next ≡ place.old.next + 2 + length header.args) }
+    ensures built { IfOk result
+        (λ header. header
+        ≡ built.for_header (scope_at place.old) (said tokens.now kind.now)
+        (map type_said types.now)) }
+    ensures scope { IfOk result
+        (λ header. scope_at place.new ≡ scope_at place.old
+        ++ values.arg_values (place.old.next + 1) (header.iv ∷ header.args)) }
+    ensures next { IfOk result
+        (λ header. place.new.next ≡ place.old.next + 2 + length header.args) }
 {
     let own = own_labels(alloc, tokens, &place.scope, kind)?;
     let carried = inits_of(alloc, tokens, kind)?;
@@ -94,10 +101,18 @@ pub(crate) fn while_header<'a>(
     place: &mut Place<'a>,
     kind: &'a [Branch],
 ) -> Result<WhileHeader, Unbuilt>
-    ensures args { IfOk result (λ header. header.args ≡ built.while_args (said tokens.now kind.now)) }
-    ensures inits { IfOk result (λ header. header.inits ≡ resolved.labels (scope_at place.old) (resolved.inits_used (source.inits_of (said tokens.now kind.now)))) }
-    ensures scope { OnOk result (scope_at place.new ≡ scope_at place.old ++ values.arg_values (place.old.next + 1) (built.while_args (said tokens.now kind.now))) }
-    ensures next { OnOk result (place.new.next ≡ place.old.next + 1 + length (built.while_args (said tokens.now kind.now))) }
+    ensures args { IfOk result
+        (λ header. header.args ≡ built.while_args (said tokens.now kind.now)) }
+    ensures inits { IfOk result
+        (λ header. header.inits
+        ≡ resolved.labels (scope_at place.old)
+        (resolved.inits_used (source.inits_of (said tokens.now kind.now)))) }
+    ensures scope { OnOk result
+        (scope_at place.new ≡ scope_at place.old
+        ++ values.arg_values (place.old.next + 1) (built.while_args (said tokens.now kind.now))) }
+    ensures next { OnOk result
+        (place.new.next ≡ place.old.next + 1
+        + length (built.while_args (said tokens.now kind.now))) }
 {
     let carried = inits_of(alloc, tokens, kind)?;
     let inits = labels_of(alloc, &place.scope, &carried.uses)?;
@@ -117,9 +132,15 @@ pub(crate) fn after_header<'a>(
     place: &mut Place<'a>,
     kind: &'a [Branch],
 ) -> Result<List<Arg>, Unbuilt>
-    ensures args { IfOk result (λ args. args ≡ resolved.args_of (source.after_params (said tokens.now kind.now))) }
-    ensures scope { OnOk result (scope_at place.new ≡ scope_at place.old ++ values.arg_values place.old.next (resolved.args_of (source.after_params (said tokens.now kind.now)))) }
-    ensures next { OnOk result (place.new.next ≡ place.old.next + length (resolved.args_of (source.after_params (said tokens.now kind.now)))) }
+    ensures args { IfOk result
+        (λ args. args ≡ resolved.args_of (source.after_params (said tokens.now kind.now))) }
+    ensures scope { OnOk result
+        (scope_at place.new ≡ scope_at place.old
+        ++ values.arg_values place.old.next
+        (resolved.args_of (source.after_params (said tokens.now kind.now)))) }
+    ensures next { OnOk result
+        (place.new.next ≡ place.old.next
+        + length (resolved.args_of (source.after_params (said tokens.now kind.now)))) }
 {
     let parts = behind(tokens, kind, Terminal::Do);
     push_params(alloc, tokens, place, inside(tokens, parts, Form::Params))
@@ -133,9 +154,22 @@ pub(crate) fn push_params<'a>(
     place: &mut Place<'a>,
     params: &'a [Branch],
 ) -> Result<List<Arg>, Unbuilt>
-    ensures args { IfOk result (λ args. args ≡ resolved.args_of (zip (source.names_in (said tokens.now params.now)) (source.types_in (said tokens.now params.now)))) }
-    ensures scope { OnOk result (scope_at place.new ≡ scope_at place.old ++ values.arg_values place.old.next (resolved.args_of (zip (source.names_in (said tokens.now params.now)) (source.types_in (said tokens.now params.now))))) }
-    ensures next { OnOk result (place.new.next ≡ place.old.next + length (resolved.args_of (zip (source.names_in (said tokens.now params.now)) (source.types_in (said tokens.now params.now))))) }
+    ensures args { IfOk result
+        (λ args. args
+        ≡ resolved.args_of
+        (zip (source.names_in (said tokens.now params.now))
+        (source.types_in (said tokens.now params.now)))) }
+    ensures scope { OnOk result
+        (scope_at place.new ≡ scope_at place.old
+        ++ values.arg_values place.old.next
+        (resolved.args_of
+        (zip (source.names_in (said tokens.now params.now))
+        (source.types_in (said tokens.now params.now))))) }
+    ensures next { OnOk result
+        (place.new.next ≡ place.old.next
+        + length (resolved.args_of
+        (zip (source.names_in (said tokens.now params.now))
+        (source.types_in (said tokens.now params.now))))) }
 {
     let names = names_in(alloc, tokens, params)?;
     let types = own_types(alloc, tokens, params)?;

@@ -30,8 +30,10 @@ pub(crate) fn build_ops<'x>(
     place: &mut Place<'x>,
     ops: Ops<'x>,
 ) -> Result<Vec<Op>, Unbuilt>
-    ensures built { IfOk result (λ made. view_ops made.items ≡ built.ops_said origin.entry ops.entry place.old) }
-    ensures behind { OnOk result (built.AreBehind place.old place.new (built.ops_said origin.entry ops.entry place.old)) }
+    ensures built { IfOk result
+        (λ made. view_ops made.items ≡ built.ops_said origin.entry ops.entry place.old) }
+    ensures behind { OnOk result
+        (built.AreBehind place.old place.new (built.ops_said origin.entry ops.entry place.old)) }
 {
     let mut made = Vec::new(alloc);
     let mut left = ops;
@@ -50,8 +52,10 @@ pub(crate) fn build_op<'x>(
     place: &mut Place<'x>,
     o: Operation<'x>,
 ) -> Result<Op, Unbuilt>
-    ensures built { IfOk result (λ op. view_ops (op ∷ []) ≡ built.op_said origin.entry o.entry place.old) }
-    ensures behind { OnOk result (built.AreBehind place.old place.new (built.op_said origin.entry o.entry place.old)) }
+    ensures built { IfOk result
+        (λ op. view_ops (op ∷ []) ≡ built.op_said origin.entry o.entry place.old) }
+    ensures behind { OnOk result
+        (built.AreBehind place.old place.new (built.op_said origin.entry o.entry place.old)) }
 {
     let packs = packs_in(alloc, origin.tokens, o.parts)?;
     let types = op_types(alloc, origin.tokens, o.kind)?;
@@ -71,8 +75,10 @@ fn build_kind<'x>(
     types: &[ValueType],
 ) -> Result<Kind, Unbuilt>
     requires { built.AreTypesOf types.now (said origin.tokens.now kind.now) }
-    ensures built { IfOk result (λ made. view_kind made ≡ built.kind_said origin.entry kind.now place.old) }
-    ensures past { OnOk result (built.IsPast place.old place.new (built.kind_said origin.entry kind.now place.old)) }
+    ensures built { IfOk result
+        (λ made. view_kind made ≡ built.kind_said origin.entry kind.now place.old) }
+    ensures past { OnOk result
+        (built.IsPast place.old place.new (built.kind_said origin.entry kind.now place.old)) }
 {
     match head(origin.tokens, kind) {
         Terminal::If => Ok(build_if(alloc, origin, place, kind)?),
@@ -91,8 +97,12 @@ fn build_region<'x>(
     ops: Ops<'x>,
     parts: &'x [Branch],
 ) -> Result<Region, Unbuilt>
-    ensures built { IfOk result (λ made. built.HasParts made (built.ops_said origin.entry ops.entry place.old) (built.ends_behind (built.ops_said origin.entry ops.entry place.old) (said origin.entry.tokens.now parts.now) place.old)) }
-    ensures past { OnOk result (built.ArePast place.old place.new (built.ops_said origin.entry ops.entry place.old)) }
+    ensures built { IfOk result
+        (λ made. built.HasParts made (built.ops_said origin.entry ops.entry place.old)
+        (built.ends_behind (built.ops_said origin.entry ops.entry place.old)
+        (said origin.entry.tokens.now parts.now) place.old)) }
+    ensures past { OnOk result
+        (built.ArePast place.old place.new (built.ops_said origin.entry ops.entry place.old)) }
 {
     let outer = place.scope.len();
     let made = build_ops(alloc, origin, place, ops)?;
@@ -109,9 +119,15 @@ fn build_tested<'x>(
     place: &mut Place<'x>,
     kind: &'x [Branch],
 ) -> Result<Tested, Unbuilt>
-    ensures built { IfOk result (λ made. built.HasParts made.region (built.first_said origin.entry kind.now place.old) (built.passed_behind origin.entry kind.now place.old)) }
-    ensures cond { IfOk result (λ made. made.cond ≡ resolved.nth_use (built.behind_before origin.entry kind.now place.old) 0 (said origin.entry.tokens.now kind.now)) }
-    ensures past { OnOk result (built.ArePast place.old place.new (built.first_said origin.entry kind.now place.old)) }
+    ensures built { IfOk result
+        (λ made. built.HasParts made.region (built.first_said origin.entry kind.now place.old)
+        (built.passed_behind origin.entry kind.now place.old)) }
+    ensures cond { IfOk result
+        (λ made. made.cond
+        ≡ resolved.nth_use (built.behind_before origin.entry kind.now place.old) 0
+        (said origin.entry.tokens.now kind.now)) }
+    ensures past { OnOk result
+        (built.ArePast place.old place.new (built.first_said origin.entry kind.now place.old)) }
 {
     let outer = place.scope.len();
     let ops = Ops {
@@ -132,8 +148,12 @@ fn build_second<'x>(
     kind: &'x [Branch],
     parts: &'x [Branch],
 ) -> Result<Region, Unbuilt>
-    ensures built { IfOk result (λ made. built.HasParts made (built.second_said origin.entry kind.now place.old) (built.second_ends origin.entry kind.now (said origin.entry.tokens.now parts.now) place.old)) }
-    ensures past { OnOk result (built.ArePast place.old place.new (built.second_said origin.entry kind.now place.old)) }
+    ensures built { IfOk result
+        (λ made. built.HasParts made (built.second_said origin.entry kind.now place.old)
+        (built.second_ends origin.entry kind.now
+        (said origin.entry.tokens.now parts.now) place.old)) }
+    ensures past { OnOk result
+        (built.ArePast place.old place.new (built.second_said origin.entry kind.now place.old)) }
 {
     let rest = behind_word(origin.tokens, kind);
     let ops = Ops {
@@ -152,8 +172,14 @@ fn build_else<'x>(
     place: &mut Place<'x>,
     kind: &'x [Branch],
 ) -> Result<Option<Region>, Unbuilt>
-    ensures built { IfOk result (λ other. built.HasElse other (phrases.has terminals.Else (said origin.entry.tokens.now kind.now)) (built.second_said origin.entry kind.now place.old) (built.second_ends origin.entry kind.now (source.else_parts (said origin.entry.tokens.now kind.now)) place.old)) }
-    ensures past { OnOk result (built.ArePast place.old place.new (built.second_said origin.entry kind.now place.old)) }
+    ensures built { IfOk result
+        (λ other. built.HasElse other
+        (phrases.has terminals.Else (said origin.entry.tokens.now kind.now))
+        (built.second_said origin.entry kind.now place.old)
+        (built.second_ends origin.entry kind.now
+        (source.else_parts (said origin.entry.tokens.now kind.now)) place.old)) }
+    ensures past { OnOk result
+        (built.ArePast place.old place.new (built.second_said origin.entry kind.now place.old)) }
 {
     let tokens = origin.tokens;
     if has(tokens, kind, Terminal::Else) {
@@ -176,8 +202,10 @@ fn build_if<'x>(
     kind: &'x [Branch],
 ) -> Result<Kind, Unbuilt>
     requires { source.head (said origin.tokens.now kind.now) ≡ terminals.If }
-    ensures built { IfOk result (λ made. view_kind made ≡ built.kind_said origin.entry kind.now place.old) }
-    ensures past { OnOk result (built.IsPast place.old place.new (built.kind_said origin.entry kind.now place.old)) }
+    ensures built { IfOk result
+        (λ made. view_kind made ≡ built.kind_said origin.entry kind.now place.old) }
+    ensures past { OnOk result
+        (built.IsPast place.old place.new (built.kind_said origin.entry kind.now place.old)) }
 {
     let tokens = origin.tokens;
     let cond = first_use(alloc, tokens, &place.scope, kind)?;
@@ -202,8 +230,10 @@ fn build_for<'x>(
 ) -> Result<Kind, Unbuilt>
     requires types { built.AreTypesOf types.now (said origin.tokens.now kind.now) }
     requires word { source.head (said origin.tokens.now kind.now) ≡ terminals.For }
-    ensures built { IfOk result (λ made. view_kind made ≡ built.kind_said origin.entry kind.now place.old) }
-    ensures past { OnOk result (built.IsPast place.old place.new (built.kind_said origin.entry kind.now place.old)) }
+    ensures built { IfOk result
+        (λ made. view_kind made ≡ built.kind_said origin.entry kind.now place.old) }
+    ensures past { OnOk result
+        (built.IsPast place.old place.new (built.kind_said origin.entry kind.now place.old)) }
 {
     let outer = place.scope.len();
     let header = for_header(alloc, origin.tokens, place, kind, types)?;
@@ -226,8 +256,10 @@ fn build_while<'x>(
     kind: &'x [Branch],
 ) -> Result<Kind, Unbuilt>
     requires { source.head (said origin.tokens.now kind.now) ≡ terminals.While }
-    ensures built { IfOk result (λ made. view_kind made ≡ built.kind_said origin.entry kind.now place.old) }
-    ensures past { OnOk result (built.IsPast place.old place.new (built.kind_said origin.entry kind.now place.old)) }
+    ensures built { IfOk result
+        (λ made. view_kind made ≡ built.kind_said origin.entry kind.now place.old) }
+    ensures past { OnOk result
+        (built.IsPast place.old place.new (built.kind_said origin.entry kind.now place.old)) }
 {
     let tokens = origin.tokens;
     let outer = place.scope.len();

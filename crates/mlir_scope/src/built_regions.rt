@@ -45,7 +45,10 @@ pub(crate) fn close_region(
     outer: usize,
     ops: Vec<Op>,
 ) -> Result<Region, Unbuilt>
-    ensures parts { IfOk result (λ made. built.HasParts made (view_ops ops.items) (resolved.labels (scope_at place.old) (source.ending terminals.Yield (said origin.entry.tokens.now parts.now)).uses)) }
+    ensures parts { IfOk result
+        (λ made. built.HasParts made (view_ops ops.items)
+        (resolved.labels (scope_at place.old)
+        (source.ending terminals.Yield (said origin.entry.tokens.now parts.now)).uses)) }
     ensures left { OnOk result (built.IsLeft place.old place.new outer) }
 {
     let ends = inside(origin.tokens, parts, Form::Ends);
@@ -71,8 +74,14 @@ pub(crate) fn close_tested(
     outer: usize,
     ops: Vec<Op>,
 ) -> Result<Tested, Unbuilt>
-    ensures parts { IfOk result (λ made. built.HasParts made.region (view_ops ops.items) (resolved.labels (scope_at place.old) (source.ending terminals.Condition (source.before_parts (said origin.entry.tokens.now kind.now))).uses)) }
-    ensures cond { IfOk result (λ made. made.cond ≡ resolved.nth_use (scope_at place.old) 0 (said origin.entry.tokens.now kind.now)) }
+    ensures parts { IfOk result
+        (λ made. built.HasParts made.region (view_ops ops.items)
+        (resolved.labels (scope_at place.old)
+        (source.ending terminals.Condition
+        (source.before_parts (said origin.entry.tokens.now kind.now))).uses)) }
+    ensures cond { IfOk result
+        (λ made. made.cond
+        ≡ resolved.nth_use (scope_at place.old) 0 (said origin.entry.tokens.now kind.now)) }
     ensures left { OnOk result (built.IsLeft place.old place.new outer) }
 {
     let ends = inside_before(origin.tokens, kind, Terminal::Do, Form::Ends);
@@ -93,8 +102,14 @@ pub(crate) fn close_op<'a>(
     types: Vec<ValueType>,
     kind: Kind,
 ) -> Result<Op, Unbuilt>
-    ensures built { IfOk result (λ op. view_ops (op ∷ []) ≡ plain.next (resolved.packs_of (map packed_said packs.entry.items)) (map type_said types.items) (view_kind kind) plain.nil) }
-    ensures scope { OnOk result (scope_at place.new ≡ scope_at place.old ++ values.result_values place.old.next (resolved.packs_of (map packed_said packs.entry.items)) (map type_said types.items)) }
+    ensures built { IfOk result
+        (λ op. view_ops (op ∷ [])
+        ≡ plain.next (resolved.packs_of (map packed_said packs.entry.items))
+        (map type_said types.items) (view_kind kind) plain.nil) }
+    ensures scope { OnOk result
+        (scope_at place.new ≡ scope_at place.old
+        ++ values.result_values place.old.next
+        (resolved.packs_of (map packed_said packs.entry.items)) (map type_said types.items)) }
     ensures next { OnOk result (place.new.next ≡ place.old.next + length types.items) }
 {
     let made = packs_of(alloc, &packs)?;
@@ -110,7 +125,9 @@ pub(crate) fn close_op<'a>(
 /// An `scf.if`.
 #[tactic(auto, using(crate::proofs::BuiltRegions::if_parts))]
 pub(crate) fn made_if(c: Label, first: Region, other: Option<Region>) -> Kind
-    ensures { view_kind result ≡ plain.If c (built.rows_of first) (built.ends_of first) (is_some other) (built.other_rows other) (built.other_ends other) }
+    ensures { view_kind result
+        ≡ plain.If c (built.rows_of first) (built.ends_of first) (is_some other)
+        (built.other_rows other) (built.other_ends other) }
 {
     Kind::If(c, first, other)
 }
@@ -118,7 +135,9 @@ pub(crate) fn made_if(c: Label, first: Region, other: Option<Region>) -> Kind
 /// An `scf.for`.
 #[tactic(auto, using(mlir_ir::proofs::PartViews::for_parts))]
 pub(crate) fn made_for(header: ForHeader, body: Region) -> Kind
-    ensures { view_kind result ≡ plain.For header.lower header.upper header.step header.iv header.args header.inits (built.rows_of body) (built.ends_of body) }
+    ensures { view_kind result
+        ≡ plain.For header.lower header.upper header.step header.iv header.args header.inits
+        (built.rows_of body) (built.ends_of body) }
 {
     Kind::For(ForParts {
         lower: header.lower,
@@ -139,7 +158,10 @@ pub(crate) fn made_while(
     after_args: List<Arg>,
     after: Region,
 ) -> Kind
-    ensures { view_kind result ≡ plain.While header.args header.inits (built.rows_of before.region) (built.ends_of before.region) before.cond after_args (built.rows_of after) (built.ends_of after) }
+    ensures { view_kind result
+        ≡ plain.While header.args header.inits (built.rows_of before.region)
+        (built.ends_of before.region) before.cond after_args (built.rows_of after)
+        (built.ends_of after) }
 {
     Kind::While(WhileParts {
         args: header.args,

@@ -86,7 +86,8 @@ pub(crate) fn args_of(
     names: &[Defined],
     types: &[ValueType],
 ) -> Result<List<Arg>, Unbuilt>
-    ensures { IfOk result (λ made. made ≡ named (map defined_said names.now) (map type_said types.now)) }
+    ensures { IfOk result
+        (λ made. made ≡ named (map defined_said names.now) (map type_said types.now)) }
 {
     let mut made = Vec::with_capacity(alloc, names.len())?;
     'each: for (i, name) in names.iter().enumerate() {

@@ -32,7 +32,14 @@ fn ending_of<'a>(
     word: u32,
     ends: &'a [Branch],
 ) -> Result<Ending<'a>, AllocError>
-    ensures { IfOk result (λ e. ending_said e ≡ record { word = word; uses = source.listed_uses (said tokens.now ends.now); types = source.listed_types (said tokens.now ends.now) }) }
+    ensures { IfOk result
+        (λ e. ending_said e
+        ≡ record {
+          word = word;
+          uses = source.listed_uses
+              (said tokens.now ends.now);
+          types = source.listed_types (said tokens.now ends.now);
+        }) }
 {
     let uses = uses_in(alloc, tokens, inside(tokens, ends, Form::Uses))?;
     let types = types_in(alloc, tokens, inside(tokens, ends, Form::Types))?;
@@ -46,7 +53,8 @@ pub fn ending_in<'a>(
     parts: &'a [Branch],
     terminal: Terminal,
 ) -> Result<Ending<'a>, AllocError>
-    ensures { IfOk result (λ e. ending_said e ≡ source.ending terminal (said tokens.now parts.now)) }
+    ensures { IfOk result
+        (λ e. ending_said e ≡ source.ending terminal (said tokens.now parts.now)) }
 {
     let word = first_spot(tokens, parts, terminal).at;
     ending_of(alloc, tokens, word, inside(tokens, parts, Form::Ends))
@@ -58,7 +66,9 @@ pub fn condition_ending<'a>(
     tokens: &'a [Token],
     kind: &'a [Branch],
 ) -> Result<Ending<'a>, AllocError>
-    ensures { IfOk result (λ e. ending_said e ≡ source.ending terminals.Condition (source.before_parts (said tokens.now kind.now))) }
+    ensures { IfOk result
+        (λ e. ending_said e
+        ≡ source.ending terminals.Condition (source.before_parts (said tokens.now kind.now))) }
 {
     let word = first_spot_before(tokens, kind, Terminal::Do, Terminal::Condition).at;
     let ends = inside_before(tokens, kind, Terminal::Do, Form::Ends);
@@ -68,7 +78,10 @@ pub fn condition_ending<'a>(
 /// Notes what uses with as many types break.
 #[tactic(auto, using(crate::proofs::Notes::noted_two, crate::proofs::Notes::same_lengths))]
 pub fn note_listed(scope: &Scope, at: u32, uses: &[Use], types: &[ValueType], first: &mut First)
-    ensures { first.new.best ≡ noted first.old.best (faults.listed_breaks (scope_said scope.now) at (map use_said uses.now) (map type_said types.now)) }
+    ensures { first.new.best
+        ≡ noted first.old.best
+        (faults.listed_breaks (scope_said scope.now) at (map use_said uses.now)
+        (map type_said types.now)) }
 {
     note_types(scope, uses, types, first);
     first.note_if(uses.len() != types.len(), at, ScopeKind::Arity);
@@ -83,7 +96,11 @@ pub fn note_ending(
     e: &Ending,
     first: &mut First,
 ) -> Result<(), AllocError>
-    ensures { OnOk result (first.new.best ≡ noted first.old.best (faults.ending_breaks (scope_said scope.now) (map type_said wanted.now) (ending_said e.now))) }
+    ensures { OnOk result
+        (first.new.best
+        ≡ noted first.old.best
+        (faults.ending_breaks (scope_said scope.now) (map type_said wanted.now)
+        (ending_said e.now))) }
 {
     let types = tys(alloc, &e.types)?;
     note_uses(scope, e.word, &e.uses, first);
@@ -103,7 +120,11 @@ pub fn note_region_ending(
     parts: &[Branch],
     first: &mut First,
 ) -> Result<(), AllocError>
-    ensures { OnOk result (first.new.best ≡ noted first.old.best (faults.region_ending (scope_said scope.now) at (map type_said wanted.now) (said tokens.now parts.now))) }
+    ensures { OnOk result
+        (first.new.best
+        ≡ noted first.old.best
+        (faults.region_ending (scope_said scope.now) at (map type_said wanted.now)
+        (said tokens.now parts.now))) }
 {
     if has(tokens, parts, Terminal::Yield) {
         let e = ending_in(alloc, tokens, parts, Terminal::Yield)?;

@@ -37,7 +37,9 @@ use std::alloc::AllocError;
 /// Notes the first type that is one too many.
 #[tactic(auto, using(crate::proofs::Overs::over_found, crate::proofs::Overs::over_past))]
 fn note_over_types(limit: usize, types: &[Written], first: &mut First)
-    ensures { first.new.best ≡ noted first.old.best (faults.over limit (map (λ (t : source.Written). t.at) (map written_said types.now))) }
+    ensures { first.new.best
+        ≡ noted first.old.best
+        (faults.over limit (map (λ (t : source.Written). t.at) (map written_said types.now))) }
 {
     if let Some(t) = types.get(limit) {
         first.note_if(true, t.at, ScopeKind::Limit);
@@ -46,7 +48,8 @@ fn note_over_types(limit: usize, types: &[Written], first: &mut First)
 
 /// The operations of a body.
 fn body_ops<'a>(body: Line<'a>) -> Ops<'a>
-    ensures { (tokens : List Token) → operations tokens result ≡ source.block (said tokens body.entry.parts.now) }
+    ensures { (tokens : List Token) → operations tokens result
+        ≡ source.block (said tokens body.entry.parts.now) }
 {
     Ops {
         parts: body.parts,
@@ -57,7 +60,12 @@ fn body_ops<'a>(body: Line<'a>) -> Ops<'a>
 /// Notes what operations break of the limits on their numbers.
 #[tactic(auto, using(crate::proofs::Notes::noted_three))]
 fn note_size(text: &Text, ops: Ops, first: &mut First) -> Result<(), AllocError>
-    ensures { OnOk result (first.new.best ≡ noted first.old.best (faults.over item_limit (faults.item_tokens (operations text.now.tokens.now ops.entry)) ++ faults.over op_limit (faults.op_tokens (operations text.now.tokens.now ops.entry)) ++ faults.wide_items (operations text.now.tokens.now ops.entry))) }
+    ensures { OnOk result
+        (first.new.best
+        ≡ noted first.old.best
+        (faults.over item_limit (faults.item_tokens (operations text.now.tokens.now ops.entry))
+        ++ faults.over op_limit (faults.op_tokens (operations text.now.tokens.now ops.entry))
+        ++ faults.wide_items (operations text.now.tokens.now ops.entry))) }
 {
     let mut items = Vec::new(text.alloc);
     add_item_tokens(&mut items, text.tokens, ops)?;
@@ -75,7 +83,13 @@ fn note_operations<'a>(
     ops: Ops<'a>,
     w: &mut Walked<'a>,
 ) -> Result<(), AllocError>
-    ensures { OnOk result (Adds w.old w.new (faults.block_breaks (funcs_in text.now) (operations text.now.tokens.now ops.entry) 0 (in_scope w.old ++ arg_values 0 (resolved.func_args (line_said text.now.tokens.now f.entry)))) (arg_values 0 (resolved.func_args (line_said text.now.tokens.now f.entry)) ++ faults.defined_by (operations text.now.tokens.now ops.entry))) }
+    ensures { OnOk result
+        (Adds w.old w.new
+        (faults.block_breaks (funcs_in text.now) (operations text.now.tokens.now ops.entry) 0
+        (in_scope w.old
+        ++ arg_values 0 (resolved.func_args (line_said text.now.tokens.now f.entry))))
+        (arg_values 0 (resolved.func_args (line_said text.now.tokens.now f.entry))
+        ++ faults.defined_by (operations text.now.tokens.now ops.entry))) }
 {
     let args = args_of(text.alloc, text.tokens, f)?;
     push_args(&mut w.scope, 0, &args.names, &args.types)?;
@@ -90,7 +104,10 @@ fn note_return<'a>(
     body: Line<'a>,
     w: &mut Walked<'a>,
 ) -> Result<(), AllocError>
-    ensures { OnOk result (Notes w.old w.new (return_breaks (in_scope w.old) (line_said text.now.tokens.now f.entry) (line_said text.now.tokens.now body.entry))) }
+    ensures { OnOk result
+        (Notes w.old w.new
+        (return_breaks (in_scope w.old) (line_said text.now.tokens.now f.entry)
+        (line_said text.now.tokens.now body.entry))) }
 {
     let results = result_types(text.alloc, text.tokens, f.parts)?;
     let results = tys(text.alloc, &results)?;
@@ -105,7 +122,11 @@ fn note_body<'a>(
     body: Line<'a>,
     first: &mut First,
 ) -> Result<(), AllocError>
-    ensures { OnOk result (first.new.best ≡ noted first.old.best (faults.body_breaks (funcs_in text.now) (line_said text.now.tokens.now f.entry) (line_said text.now.tokens.now body.entry))) }
+    ensures { OnOk result
+        (first.new.best
+        ≡ noted first.old.best
+        (faults.body_breaks (funcs_in text.now) (line_said text.now.tokens.now f.entry)
+        (line_said text.now.tokens.now body.entry))) }
 {
     let ops = body_ops(body);
     note_size(text, ops, first)?;
@@ -127,7 +148,11 @@ fn note_bodies<'a>(
     bodies: &[Line<'a>],
     first: &mut First,
 ) -> Result<(), AllocError>
-    ensures { OnOk result (first.new.best ≡ noted first.old.best (flat_map (faults.body_breaks (funcs_in text.now) (line_said text.now.tokens.now f.entry)) (map (line_said text.now.tokens.now) bodies.now))) }
+    ensures { OnOk result
+        (first.new.best
+        ≡ noted first.old.best
+        (flat_map (faults.body_breaks (funcs_in text.now) (line_said text.now.tokens.now f.entry))
+        (map (line_said text.now.tokens.now) bodies.now))) }
 {
     'each: for body in bodies {
         note_body(text, f, *body, first)?;
@@ -137,7 +162,10 @@ fn note_bodies<'a>(
 
 /// Notes what a function breaks.
 pub fn note_func<'a>(text: &Text<'a>, f: Line<'a>, first: &mut First) -> Result<(), AllocError>
-    ensures { OnOk result (first.new.best ≡ noted first.old.best (faults.func_breaks (funcs_in text.now) (line_said text.now.tokens.now f.entry))) }
+    ensures { OnOk result
+        (first.new.best
+        ≡ noted first.old.best
+        (faults.func_breaks (funcs_in text.now) (line_said text.now.tokens.now f.entry))) }
 {
     let params = inside(text.tokens, f.parts, Form::Params);
     let params = params_in(text.alloc, text.tokens, params)?;
@@ -149,20 +177,5 @@ pub fn note_func<'a>(text: &Text<'a>, f: Line<'a>, first: &mut First) -> Result<
     note_over_names(ARG_LIMIT, &args.names, first);
     note_over_types(RESULT_LIMIT, &results, first);
     note_bodies(text, f, &bodies, first)?;
-    Ok(())
-}
-
-/// Notes what the functions break.
-#[tactic(auto, using(crate::proofs::Notes::noted_more, crate::proofs::Parted::cut_here))]
-pub fn note_funcs<'a>(
-    text: &Text<'a>,
-    funcs: &[Line<'a>],
-    first: &mut First,
-) -> Result<(), AllocError>
-    ensures { OnOk result (first.new.best ≡ noted first.old.best (flat_map (faults.func_breaks (funcs_in text.now)) (map (line_said text.now.tokens.now) funcs.now))) }
-{
-    'each: for f in funcs {
-        note_func(text, *f, first)?;
-    }
     Ok(())
 }

@@ -21,7 +21,9 @@ use std::alloc::{AllocError, Global};
 
 /// Puts the types that stand directly there behind those that were found.
 fn add_types(found: &mut Vec<Written>, tokens: &[Token], parts: &[Branch]) -> Result<(), AllocError>
-    ensures { OnOk result (map written_said found.new.items ≡ map written_said found.old.items ++ source.types_in (said tokens.now parts.now)) }
+    ensures { OnOk result
+        (map written_said found.new.items ≡ map written_said found.old.items
+        ++ source.types_in (said tokens.now parts.now)) }
 {
     let mut rest = parts;
     'seek: while let Some((part, behind)) = next(tokens, rest) {
@@ -42,7 +44,8 @@ pub fn result_types(
     tokens: &[Token],
     parts: &[Branch],
 ) -> Result<Vec<Written>, AllocError>
-    ensures { IfOk result (λ v. map written_said v.items ≡ source.result_types (said tokens.now parts.now)) }
+    ensures { IfOk result
+        (λ v. map written_said v.items ≡ source.result_types (said tokens.now parts.now)) }
 {
     let results = inside(tokens, parts, Form::Results);
     let mut found = types_in(alloc, tokens, results)?;
@@ -65,10 +68,20 @@ pub(crate) fn own_types(
     tokens: &[Token],
     kind: &[Branch],
 ) -> Result<Vec<ValueType>, AllocError>
-    ensures { IfOk result (λ v. map type_said v.items ≡ resolved.tys (source.types_in (said tokens.now kind.now))) }
+    ensures { IfOk result
+        (λ v. map type_said v.items ≡ resolved.tys (source.types_in (said tokens.now kind.now))) }
 {
-    let types = types_in(alloc, tokens, kind)?;
-    tys(alloc, &types)
+    let mut found = Vec::new(alloc);
+    let mut rest = kind;
+    'seek: while let Some((part, behind)) = next(tokens, rest) {
+        rest = behind;
+        if let Part::Line(form, _, inner) = part {
+            if is_same_form(Form::TypeName, form) {
+                found.push(type_in(tokens, inner))?;
+            }
+        }
+    }
+    Ok(found)
 }
 
 /// The types of a cast's results, which stand behind that of its use.
@@ -78,7 +91,9 @@ fn cast_types(
     tokens: &[Token],
     kind: &[Branch],
 ) -> Result<Vec<ValueType>, AllocError>
-    ensures { IfOk result (λ v. map type_said v.items ≡ resolved.tys (drop 1 (source.types_in (said tokens.now kind.now)))) }
+    ensures { IfOk result
+        (λ v. map type_said v.items
+        ≡ resolved.tys (drop 1 (source.types_in (said tokens.now kind.now)))) }
 {
     let types = types_in(alloc, tokens, kind)?;
     let types = types.as_slice();
@@ -94,7 +109,9 @@ pub(crate) fn listed_results(
     tokens: &[Token],
     kind: &[Branch],
 ) -> Result<Vec<ValueType>, AllocError>
-    ensures { IfOk result (λ v. map type_said v.items ≡ resolved.tys (source.result_types (said tokens.now kind.now))) }
+    ensures { IfOk result
+        (λ v. map type_said v.items
+        ≡ resolved.tys (source.result_types (said tokens.now kind.now))) }
 {
     let types = result_types(alloc, tokens, kind)?;
     tys(alloc, &types)
@@ -107,7 +124,10 @@ pub fn op_types(
     tokens: &[Token],
     kind: &[Branch],
 ) -> Result<Vec<ValueType>, AllocError>
-    ensures { IfOk result (λ v. map type_said v.items ≡ resolved.tys (source.op_types (source.head (said tokens.now kind.now)) (said tokens.now kind.now))) }
+    ensures { IfOk result
+        (λ v. map type_said v.items
+        ≡ resolved.tys
+        (source.op_types (source.head (said tokens.now kind.now)) (said tokens.now kind.now))) }
 {
     match head(tokens, kind) {
         Terminal::Constant => {
@@ -129,7 +149,10 @@ pub fn op_types(
 
 /// Notes uses that don't have the first written type.
 pub fn note_same(scope: &Scope, uses: &[Use], types: &[Written], first: &mut First)
-    ensures { first.new.best ≡ noted first.old.best (faults.same_written (scope_said scope.now) (map use_said uses.now) (map written_said types.now)) }
+    ensures { first.new.best
+        ≡ noted first.old.best
+        (faults.same_written (scope_said scope.now) (map use_said uses.now)
+        (map written_said types.now)) }
 {
     if let Some(t) = types.first() {
         note_differing(scope, uses, t.ty, first);
@@ -184,7 +207,9 @@ fn is_index(ty: ValueType) -> bool
 /// Notes what a cast between two written types breaks.
 #[tactic(auto, using(crate::proofs::OwnTypes::cast_parts, crate::proofs::Notes::noted_two))]
 fn note_pair(tokens: &[Token], kind: &[Branch], from: Written, to: Written, first: &mut First)
-    ensures { first.new.best ≡ noted first.old.best (faults.cast_breaks (said tokens.now kind.now) (written_said from ∷ written_said to ∷ [])) }
+    ensures { first.new.best
+        ≡ noted first.old.best
+        (faults.cast_breaks (said tokens.now kind.now) (written_said from ∷ written_said to ∷ [])) }
 {
     let op = cast_named(word(tokens, kind).text);
     let no_index = is_index(from.ty) && !casts(op, ValueType::Index, ValueType::Int(1));
@@ -195,7 +220,9 @@ fn note_pair(tokens: &[Token], kind: &[Branch], from: Written, to: Written, firs
 
 /// Notes what a cast between the first two written types breaks.
 pub fn note_cast(tokens: &[Token], kind: &[Branch], types: &[Written], first: &mut First)
-    ensures { first.new.best ≡ noted first.old.best (faults.cast_breaks (said tokens.now kind.now) (map written_said types.now)) }
+    ensures { first.new.best
+        ≡ noted first.old.best
+        (faults.cast_breaks (said tokens.now kind.now) (map written_said types.now)) }
 {
     if let Some((from, behind)) = types.split_first() {
         if let Some((to, _)) = behind.split_first() {
@@ -218,8 +245,13 @@ pub fn inits_of<'a>(
     tokens: &'a [Token],
     kind: &'a [Branch],
 ) -> Result<Inits<'a>, AllocError>
-    ensures names { IfOk result (λ v. map defined_said v.names.items ≡ map (λ (p : source.Defined × source.Use). p.0) (source.inits_of (said tokens.now kind.now))) }
-    ensures uses { IfOk result (λ v. map use_said v.uses.items ≡ resolved.inits_used (source.inits_of (said tokens.now kind.now))) }
+    ensures names { IfOk result
+        (λ v. map defined_said v.names.items
+        ≡ map (λ (p : source.Defined × source.Use). p.0)
+        (source.inits_of (said tokens.now kind.now))) }
+    ensures uses { IfOk result
+        (λ v. map use_said v.uses.items
+        ≡ resolved.inits_used (source.inits_of (said tokens.now kind.now))) }
 {
     let inits = inside(tokens, kind, Form::Inits);
     let mut names = names_in(alloc, tokens, inits)?;

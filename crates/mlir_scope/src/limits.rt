@@ -1,45 +1,63 @@
 ghost use Rattle.std.specs.Prelude.{◌≡◌, ◌++◌, map, OnOk};
 ghost use Rattle.mlir_ir.specs.ScopeFaults as faults;
 ghost use Rattle.mlir_scope.specs.Blocks.{operations};
+ghost use Rattle.mlir_ir.specs.Source as source;
 ghost use Rattle.mlir_scope.specs.Noted.{noted};
+ghost use Rattle.mlir_scope.specs.Said.{said};
 
-use crate::blocks::{Ops, behind_word, next_op};
+use crate::blocks::{Ops, behind_word, may_have_regions, next_op};
 use crate::first::First;
 use mlir_ir::limits::NAME_LIMIT;
-use mlir_ir::{ScopeKind, Token, TokenKind};
+use mlir_ir::{Branch, ScopeKind, Token, TokenKind};
 use std::alloc::AllocError;
 
+/// Puts the tokens where the operations in the regions of an operation begin behind those found.
+#[cycle(counting)]
+fn add_inner_tokens(
+    found: &mut Vec<u32>,
+    tokens: &[Token],
+    kind: &[Branch],
+) -> Result<(), AllocError>
+    ensures { OnOk result (found.new.items ≡ found.old.items
+        ++ (faults.op_tokens (source.region (said tokens.now kind.now))
+        ++ faults.op_tokens (source.region_behind (said tokens.now kind.now)))) }
+{
+    if !may_have_regions(tokens, kind) {
+        return Ok(());
+    }
+    let first = Ops {
+        parts: kind,
+        direct: false,
+    };
+    add_op_tokens(found, tokens, first)?;
+    let second = Ops {
+        parts: behind_word(tokens, kind),
+        direct: false,
+    };
+    add_op_tokens(found, tokens, second)?;
+    Ok(())
+}
+
 /// Puts the tokens where operations begin, those of their regions too, behind those found.
+#[cycle(counting)]
 pub fn add_op_tokens(found: &mut Vec<u32>, tokens: &[Token], ops: Ops) -> Result<(), AllocError>
-    ensures { OnOk result (found.new.items ≡ found.old.items ++ faults.op_tokens (operations tokens.now ops.entry)) }
+    ensures { OnOk result
+        (found.new.items ≡ found.old.items ++ faults.op_tokens (operations tokens.now ops.entry)) }
 {
     let mut left = ops;
     'each: while let Some((o, rest)) = next_op(tokens, left) {
         left = rest;
         found.push(o.at)?;
-        add_op_tokens(
-            found,
-            tokens,
-            Ops {
-                parts: o.kind,
-                direct: false,
-            },
-        )?;
-        add_op_tokens(
-            found,
-            tokens,
-            Ops {
-                parts: behind_word(tokens, o.kind),
-                direct: false,
-            },
-        )?;
+        add_inner_tokens(found, tokens, o.kind)?;
     }
     Ok(())
 }
 
 /// Puts the tokens where operations begin, without those of their regions, behind those found.
 pub fn add_item_tokens(found: &mut Vec<u32>, tokens: &[Token], ops: Ops) -> Result<(), AllocError>
-    ensures { OnOk result (found.new.items ≡ found.old.items ++ faults.item_tokens (operations tokens.now ops.entry)) }
+    ensures { OnOk result
+        (found.new.items ≡ found.old.items
+        ++ faults.item_tokens (operations tokens.now ops.entry)) }
 {
     let mut left = ops;
     'each: while let Some((o, rest)) = next_op(tokens, left) {

@@ -25,7 +25,8 @@ use std::alloc::AllocError;
 
 /// The types of an operation's results, as they are listed.
 pub fn wanted_of(text: &Text, kind: &[Branch]) -> Result<Vec<ValueType>, AllocError>
-    ensures { IfOk result (λ v. map type_said v.items ≡ wanted_types (said text.now.tokens.now kind.now)) }
+    ensures { IfOk result
+        (λ v. map type_said v.items ≡ wanted_types (said text.now.tokens.now kind.now)) }
 {
     let types = result_types(text.alloc, text.tokens, kind)?;
     tys(text.alloc, &types)
@@ -33,7 +34,8 @@ pub fn wanted_of(text: &Text, kind: &[Branch]) -> Result<Vec<ValueType>, AllocEr
 
 /// The types that are listed in a kind.
 pub fn listed_of(text: &Text, kind: &[Branch]) -> Result<Vec<ValueType>, AllocError>
-    ensures { IfOk result (λ v. map type_said v.items ≡ listed_tys (said text.now.tokens.now kind.now)) }
+    ensures { IfOk result
+        (λ v. map type_said v.items ≡ listed_tys (said text.now.tokens.now kind.now)) }
 {
     let types = types_in(
         text.alloc,
@@ -60,7 +62,10 @@ pub fn push_for<'a>(
     kind: &'a [Branch],
     scope: &mut Scope<'a>,
 ) -> Result<(), AllocError>
-    ensures { OnOk result (scope_said scope.new ≡ scope_said scope.old ++ for_values (said text.now.tokens.now kind.now) (wanted_types (said text.now.tokens.now kind.now))) }
+    ensures { OnOk result
+        (scope_said scope.new ≡ scope_said scope.old
+        ++ for_values (said text.now.tokens.now kind.now)
+        (wanted_types (said text.now.tokens.now kind.now))) }
 {
     let inits = inits_of(text.alloc, text.tokens, kind)?;
     let written = types_in(text.alloc, text.tokens, kind)?;
@@ -81,7 +86,9 @@ pub fn push_while<'a>(
     kind: &'a [Branch],
     scope: &mut Scope<'a>,
 ) -> Result<(), AllocError>
-    ensures { OnOk result (scope_said scope.new ≡ scope_said scope.old ++ while_values (said text.now.tokens.now kind.now)) }
+    ensures { OnOk result
+        (scope_said scope.new ≡ scope_said scope.old
+        ++ while_values (said text.now.tokens.now kind.now)) }
 {
     let inits = inits_of(text.alloc, text.tokens, kind)?;
     let types = listed_of(text, kind)?;
@@ -95,7 +102,9 @@ pub fn push_after<'a>(
     kind: &'a [Branch],
     scope: &mut Scope<'a>,
 ) -> Result<(), AllocError>
-    ensures { OnOk result (scope_said scope.new ≡ scope_said scope.old ++ after_values (said text.now.tokens.now kind.now)) }
+    ensures { OnOk result
+        (scope_said scope.new ≡ scope_said scope.old
+        ++ after_values (said text.now.tokens.now kind.now)) }
 {
     let params = after_params(text, kind)?;
     let types = tys(text.alloc, &params.types)?;
@@ -108,7 +117,10 @@ pub fn note_if_header<'a>(
     kind: &'a [Branch],
     w: &mut Walked<'a>,
 ) -> Result<(), AllocError>
-    ensures { OnOk result (Notes w.old w.new (faults.type_breaks (in_scope w.old) (source.uses_in (said text.now.tokens.now kind.now)) (rules.truth ∷ []))) }
+    ensures { OnOk result
+        (Notes w.old w.new
+        (faults.type_breaks (in_scope w.old) (source.uses_in (said text.now.tokens.now kind.now))
+        (rules.truth ∷ []))) }
 {
     let uses = uses_in(text.alloc, text.tokens, kind)?;
     note_truth(&w.scope, &uses, &mut w.first);
@@ -121,7 +133,8 @@ fn note_bounds<'a>(
     kind: &'a [Branch],
     w: &mut Walked<'a>,
 ) -> Result<(), AllocError>
-    ensures { OnOk result (Notes w.old w.new (bounds_breaks (in_scope w.old) (said text.now.tokens.now kind.now))) }
+    ensures { OnOk result
+        (Notes w.old w.new (bounds_breaks (in_scope w.old) (said text.now.tokens.now kind.now))) }
 {
     let written = types_in(text.alloc, text.tokens, kind)?;
     let uses = uses_in(text.alloc, text.tokens, kind)?;
@@ -131,7 +144,11 @@ fn note_bounds<'a>(
 
 /// The counter of an `scf.for`, alone in a list.
 fn counter_of<'a>(text: &Text<'a>, kind: &'a [Branch]) -> Result<Vec<Defined<'a>>, AllocError>
-    ensures { IfOk result (λ v. map defined_said v.items ≡ source.defined (phrases.first_spot (phrases.spots terminals.Value (said text.now.tokens.now kind.now))) ∷ []) }
+    ensures { IfOk result
+        (λ v. map defined_said v.items
+        ≡ source.defined
+        (phrases.first_spot (phrases.spots terminals.Value (said text.now.tokens.now kind.now)))
+        ∷ []) }
 {
     let mut made = Vec::with_capacity(text.alloc, 1)?;
     made.push(defined_at(first_spot(text.tokens, kind, Terminal::Value)))?;
@@ -145,7 +162,9 @@ pub fn note_for_header<'a>(
     kind: &'a [Branch],
     w: &mut Walked<'a>,
 ) -> Result<(), AllocError>
-    ensures { OnOk result (Notes w.old w.new (breaks_of_header loops (in_scope w.old) (said text.now.tokens.now kind.now))) }
+    ensures { OnOk result
+        (Notes w.old w.new
+        (breaks_of_header loops (in_scope w.old) (said text.now.tokens.now kind.now))) }
 {
     let wanted = wanted_of(text, kind)?;
     let counter = counter_of(text, kind)?;
@@ -161,7 +180,10 @@ pub fn note_while_header<'a>(
     kind: &'a [Branch],
     w: &mut Walked<'a>,
 ) -> Result<(), AllocError>
-    ensures { OnOk result (Notes w.old w.new (faults.carried_breaks (in_scope w.old) loops (said text.now.tokens.now kind.now) [] (listed_tys (said text.now.tokens.now kind.now)))) }
+    ensures { OnOk result
+        (Notes w.old w.new
+        (faults.carried_breaks (in_scope w.old) loops (said text.now.tokens.now kind.now) []
+        (listed_tys (said text.now.tokens.now kind.now)))) }
 {
     let types = listed_of(text, kind)?;
     note_carried(text, loops, kind, &[], &types, w)?;

@@ -26,7 +26,9 @@ use std::alloc::{AllocError, Global};
 /// Notes the first name that is one too many.
 #[tactic(auto, using(crate::proofs::Overs::over_found, crate::proofs::Overs::over_past))]
 pub fn note_over_names(limit: usize, names: &[Defined], first: &mut First)
-    ensures { first.new.best ≡ noted first.old.best (faults.over limit (map (λ (d : source.Defined). d.at) (map defined_said names.now))) }
+    ensures { first.new.best
+        ≡ noted first.old.best
+        (faults.over limit (map (λ (d : source.Defined). d.at) (map defined_said names.now))) }
 {
     if let Some(d) = names.get(limit) {
         first.note_if(true, d.at, ScopeKind::Limit);
@@ -57,7 +59,10 @@ pub fn note_carried<'a>(
     types: &[ValueType],
     w: &mut Walked<'a>,
 ) -> Result<(), AllocError>
-    ensures { OnOk result (Notes w.old w.new (faults.carried_breaks (in_scope w.old) loops (said text.now.tokens.now kind.now) (map defined_said before.now) (map type_said types.now))) }
+    ensures { OnOk result
+        (Notes w.old w.new
+        (faults.carried_breaks (in_scope w.old) loops (said text.now.tokens.now kind.now)
+        (map defined_said before.now) (map type_said types.now))) }
 {
     let at = word(text.tokens, kind).at;
     let inits = inits_of(text.alloc, text.tokens, kind)?;
@@ -71,8 +76,14 @@ pub fn note_carried<'a>(
 
 /// The parameters behind `do`.
 pub fn after_params<'a>(text: &Text<'a>, kind: &'a [Branch]) -> Result<Params<'a>, AllocError>
-    ensures names { IfOk result (λ v. map defined_said v.names.items ≡ map (λ (p : source.Defined × source.Written). p.0) (source.after_params (said text.now.tokens.now kind.now))) }
-    ensures types { IfOk result (λ v. map written_said v.types.items ≡ map (λ (p : source.Defined × source.Written). p.1) (source.after_params (said text.now.tokens.now kind.now))) }
+    ensures names { IfOk result
+        (λ v. map defined_said v.names.items
+        ≡ map (λ (p : source.Defined × source.Written). p.0)
+        (source.after_params (said text.now.tokens.now kind.now))) }
+    ensures types { IfOk result
+        (λ v. map written_said v.types.items
+        ≡ map (λ (p : source.Defined × source.Written). p.1)
+        (source.after_params (said text.now.tokens.now kind.now))) }
 {
     let parts = behind(text.tokens, kind, Terminal::Do);
     params_in(
@@ -89,7 +100,10 @@ pub fn note_params<'a>(
     wanted: &[ValueType],
     w: &mut Walked<'a>,
 ) -> Result<(), AllocError>
-    ensures { OnOk result (Notes w.old w.new (faults.params_breaks (in_scope w.old) (source.word (said text.now.tokens.now kind.now)).at (map type_said wanted.now) (source.after_params (said text.now.tokens.now kind.now)))) }
+    ensures { OnOk result
+        (Notes w.old w.new
+        (faults.params_breaks (in_scope w.old) (source.word (said text.now.tokens.now kind.now)).at
+        (map type_said wanted.now) (source.after_params (said text.now.tokens.now kind.now)))) }
 {
     let at = word(text.tokens, kind).at;
     let params = after_params(text, kind)?;
@@ -110,7 +124,11 @@ pub fn note_condition(
     wanted: &[ValueType],
     first: &mut First,
 ) -> Result<(), AllocError>
-    ensures { OnOk result (first.new.best ≡ noted first.old.best (faults.condition_breaks (scope_said scope.now) (said text.now.tokens.now kind.now) (map type_said wanted.now))) }
+    ensures { OnOk result
+        (first.new.best
+        ≡ noted first.old.best
+        (faults.condition_breaks (scope_said scope.now) (said text.now.tokens.now kind.now)
+        (map type_said wanted.now))) }
 {
     let uses = uses_in(text.alloc, text.tokens, kind)?;
     let e = condition_ending(text.alloc, text.tokens, kind)?;

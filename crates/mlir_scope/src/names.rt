@@ -1,4 +1,4 @@
-ghost use Rattle.std.specs.Prelude.{◌≡◌, map, OnOk};
+ghost use Rattle.std.specs.Prelude.{◌≡◌, ◌∷◌, [], map, OnOk};
 ghost use Rattle.mlir_ir.specs.ScopeFaults as faults;
 ghost use Rattle.mlir_scope.specs.Noted.{noted};
 ghost use Rattle.mlir_scope.specs.Reading.{defined_said};
@@ -10,13 +10,48 @@ use crate::scope::{Known, Scope};
 use mlir_ir::ScopeKind;
 use std::alloc::AllocError;
 
+/// Notes a definition of a name that is in scope.
+pub(crate) fn note_one(scope: &Scope, d: Defined, first: &mut First)
+    ensures { first.new.best ≡ noted first.old.best
+        (faults.repeated (faults.names_of (scope_said scope.now)) (defined_said d.entry ∷ [])) }
+{
+    first.note_if(scope.has(d.name), d.at, ScopeKind::Twice);
+}
+
 /// Notes definitions of names that are in scope, or that an earlier one of them has.
 pub fn note_repeated<'a>(
     scope: &mut Scope<'a>,
     definitions: &[Defined<'a>],
     first: &mut First,
 ) -> Result<(), AllocError>
-    ensures noted { OnOk result (first.new.best ≡ noted first.old.best (faults.repeated (faults.names_of (scope_said scope.old)) (map defined_said definitions.now))) }
+    ensures noted { OnOk result
+        (first.new.best
+        ≡ noted first.old.best
+        (faults.repeated (faults.names_of (scope_said scope.old))
+        (map defined_said definitions.now))) }
+    ensures kept { OnOk result (scope_said scope.new ≡ scope_said scope.old) }
+{
+    match definitions {
+        [] => Ok(()),
+        [d] => {
+            note_one(scope, *d, first);
+            Ok(())
+        }
+        _ => note_in_turn(scope, definitions, first),
+    }
+}
+
+/// Notes the same, with each of the names in scope for those behind it.
+fn note_in_turn<'a>(
+    scope: &mut Scope<'a>,
+    definitions: &[Defined<'a>],
+    first: &mut First,
+) -> Result<(), AllocError>
+    ensures noted { OnOk result
+        (first.new.best
+        ≡ noted first.old.best
+        (faults.repeated (faults.names_of (scope_said scope.old))
+        (map defined_said definitions.now))) }
     ensures kept { OnOk result (scope_said scope.new ≡ scope_said scope.old) }
 {
     let len = scope.len();

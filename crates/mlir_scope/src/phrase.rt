@@ -4,15 +4,16 @@ ghost use Rattle.mlir_ir.specs.Phrases.{done};
 ghost use Rattle.mlir_ir.specs.Source as source;
 ghost use Rattle.mlir_scope.specs.Said.{said, with_part, spot_said, line_said};
 
-use mlir_ir::{Branch, Form, Terminal, Token, is_same_form, is_same_terminal};
+use crate::tokens::is_token;
+use mlir_ir::{Branch, Form, Terminal, Token, is_same_form};
 use mlir_parse::terminal_of;
 use std::alloc::{AllocError, Global};
 
 /// One part of a line: a token, or a line of the grammar.
 #[derive(Clone, Copy)]
 pub enum Part<'a> {
-    /// A token, by its number, with its terminal and its bytes.
-    Single(u32, Terminal, &'a [u8]),
+    /// A token, with its number.
+    Single(u32, &'a Token),
     /// A line, with the number of its first token and its parts.
     Line(Form, u32, &'a [Branch]),
 }
@@ -34,7 +35,9 @@ pub struct Line<'a> {
 /// The first part, with what stands behind it.
 #[tactic(auto, using(crate::proofs::Parted::said_line))]
 pub fn next<'a>(tokens: &'a [Token], parts: &'a [Branch]) -> Option<(Part<'a>, &'a [Branch])>
-    ensures { MatchOption result (said tokens.now parts.now ≡ done) (λ r. (said tokens.now parts.now ≡ with_part tokens.now r.0 (said tokens.now r.1.now)) × (length r.1.now < length parts.now)) }
+    ensures { MatchOption result (said tokens.now parts.now ≡ done)
+        (λ r. (said tokens.now parts.now ≡ with_part tokens.now r.0 (said tokens.now r.1.now))
+        × (length r.1.now < length parts.now)) }
 {
     let mut rest = parts;
     while let Some((first, behind)) = rest.split_first() {
@@ -42,8 +45,7 @@ pub fn next<'a>(tokens: &'a [Token], parts: &'a [Branch]) -> Option<(Part<'a>, &
         match first.form {
             Form::Leaf => {
                 if let Some(token) = tokens.get(first.token as usize) {
-                    let part = Part::Single(first.token, terminal_of(token), token.text.as_bytes());
-                    return Some((part, behind));
+                    return Some((Part::Single(first.token, token), behind));
                 }
             }
             form => return Some((
@@ -57,14 +59,18 @@ pub fn next<'a>(tokens: &'a [Token], parts: &'a [Branch]) -> Option<(Part<'a>, &
 
 /// The first token of that terminal, or a token without bytes where none stands there.
 pub fn first_spot<'a>(tokens: &'a [Token], parts: &'a [Branch], terminal: Terminal) -> Spot<'a>
-    ensures { spot_said result ≡ phrases.first_spot (phrases.spots terminal (said tokens.now parts.now)) }
+    ensures { spot_said result
+        ≡ phrases.first_spot (phrases.spots terminal (said tokens.now parts.now)) }
 {
     let mut rest = parts;
     'seek: while let Some((part, behind)) = next(tokens, rest) {
         rest = behind;
-        if let Part::Single(at, found, text) = part {
-            if is_same_terminal(terminal, found) {
-                return Spot { at, text };
+        if let Part::Single(at, token) = part {
+            if is_token(token, terminal) {
+                return Spot {
+                    at,
+                    text: token.text.as_bytes(),
+                };
             }
         }
     }
@@ -78,8 +84,8 @@ pub fn has(tokens: &[Token], parts: &[Branch], terminal: Terminal) -> bool
     let mut rest = parts;
     'seek: while let Some((part, behind)) = next(tokens, rest) {
         rest = behind;
-        if let Part::Single(_, found, _) = part {
-            if is_same_terminal(terminal, found) {
+        if let Part::Single(_, token) = part {
+            if is_token(token, terminal) {
                 return true;
             }
         }
@@ -110,8 +116,8 @@ pub fn behind<'a>(tokens: &'a [Token], parts: &'a [Branch], terminal: Terminal) 
     let mut rest = parts;
     'seek: while let Some((part, behind)) = next(tokens, rest) {
         rest = behind;
-        if let Part::Single(_, found, _) = part {
-            if is_same_terminal(terminal, found) {
+        if let Part::Single(_, token) = part {
+            if is_token(token, terminal) {
                 return behind;
             }
         }
@@ -126,7 +132,8 @@ pub fn lines<'a>(
     parts: &'a [Branch],
     form: Form,
 ) -> Result<Vec<Line<'a>>, AllocError>
-    ensures { IfOk result (λ v. map (line_said tokens.now) v.items ≡ phrases.lines form (said tokens.now parts.now)) }
+    ensures { IfOk result
+        (λ v. map (line_said tokens.now) v.items ≡ phrases.lines form (said tokens.now parts.now)) }
 {
     let mut found = Vec::new(alloc);
     let mut rest = parts;
@@ -146,7 +153,7 @@ pub fn head(tokens: &[Token], parts: &[Branch]) -> Terminal
     ensures { result ≡ source.head (said tokens.now parts.now) }
 {
     match next(tokens, parts) {
-        Some((Part::Single(_, terminal, _), _)) => terminal,
+        Some((Part::Single(_, token), _)) => terminal_of(token),
         _ => Terminal::OtherWord,
     }
 }
@@ -157,7 +164,10 @@ pub fn word<'a>(tokens: &'a [Token], parts: &'a [Branch]) -> Spot<'a>
 {
     match next(tokens, parts) {
         None => Spot { at: 0, text: &[] },
-        Some((Part::Single(at, _, text), _)) => Spot { at, text },
+        Some((Part::Single(at, token), _)) => Spot {
+            at,
+            text: token.text.as_bytes(),
+        },
         Some((Part::Line(_, at, _), _)) => Spot { at, text: &[] },
     }
 }
@@ -170,17 +180,22 @@ pub fn first_spot_before<'a>(
     stop: Terminal,
     terminal: Terminal,
 ) -> Spot<'a>
-    ensures { spot_said result ≡ phrases.first_spot (phrases.spots terminal (phrases.until stop (said tokens.now parts.now))) }
+    ensures { spot_said result
+        ≡ phrases.first_spot
+        (phrases.spots terminal (phrases.until stop (said tokens.now parts.now))) }
 {
     let mut rest = parts;
     'seek: while let Some((part, behind)) = next(tokens, rest) {
         rest = behind;
-        if let Part::Single(at, found, text) = part {
-            if is_same_terminal(stop, found) {
+        if let Part::Single(at, token) = part {
+            if is_token(token, stop) {
                 return Spot { at: 0, text: &[] };
             }
-            if is_same_terminal(terminal, found) {
-                return Spot { at, text };
+            if is_token(token, terminal) {
+                return Spot {
+                    at,
+                    text: token.text.as_bytes(),
+                };
             }
         }
     }
@@ -195,14 +210,15 @@ pub fn inside_before<'a>(
     stop: Terminal,
     form: Form,
 ) -> &'a [Branch]
-    ensures { said tokens.now result.now ≡ phrases.inside form (phrases.until stop (said tokens.now parts.now)) }
+    ensures { said tokens.now result.now
+        ≡ phrases.inside form (phrases.until stop (said tokens.now parts.now)) }
 {
     let mut rest = parts;
     'seek: while let Some((part, behind)) = next(tokens, rest) {
         rest = behind;
         match part {
-            Part::Single(_, found, _) => {
-                if is_same_terminal(stop, found) {
+            Part::Single(_, token) => {
+                if is_token(token, stop) {
                     return &[];
                 }
             }

@@ -30,7 +30,9 @@ fn push_pack<'a>(
     types: &[ValueType],
 ) -> Result<(), AllocError>
     requires { at + length types.now < 2 ^ 32 }
-    ensures { OnOk result (values_in scope.new ≡ values_in scope.old ++ values.pack_values at (pack_of (packed_said pack.entry)) 0 (map type_said types.now)) }
+    ensures { OnOk result
+        (values_in scope.new ≡ values_in scope.old
+        ++ values.pack_values at (pack_of (packed_said pack.entry)) 0 (map type_said types.now)) }
 {
     'each: for (place, ty) in types.iter().enumerate() {
         scope.push(Named {
@@ -52,7 +54,9 @@ fn push_names<'a>(
     types: &[ValueType],
 ) -> Result<(), AllocError>
     requires { at + length names.now < 2 ^ 32 }
-    ensures { OnOk result (values_in scope.new ≡ values_in scope.old ++ values.arg_values at (named (map defined_said names.now) (map type_said types.now))) }
+    ensures { OnOk result
+        (values_in scope.new ≡ values_in scope.old
+        ++ values.arg_values at (named (map defined_said names.now) (map type_said types.now))) }
 {
     'each: for (i, name) in names.iter().enumerate() {
         match types.get(i) {
@@ -113,7 +117,10 @@ impl<'a> Place<'a> {
         packs: &[Packed<'a>],
         types: &[ValueType],
     ) -> Result<(), Unbuilt>
-        ensures scope { OnOk result (scope_at self.new ≡ scope_at self.old ++ values.result_values self.old.next (packs_of (map packed_said packs.now)) (map type_said types.now)) }
+        ensures scope { OnOk result
+            (scope_at self.new ≡ scope_at self.old
+            ++ values.result_values self.old.next (packs_of (map packed_said packs.now))
+            (map type_said types.now)) }
         ensures next { OnOk result (self.new.next ≡ self.old.next + length types.now) }
     {
         let end = behind(self.next, types.len())?;
@@ -139,8 +146,13 @@ impl<'a> Place<'a> {
         names: &[Defined<'a>],
         types: &[ValueType],
     ) -> Result<(), Unbuilt>
-        ensures scope { OnOk result (scope_at self.new ≡ scope_at self.old ++ values.arg_values self.old.next (named (map defined_said names.now) (map type_said types.now))) }
-        ensures next { OnOk result (self.new.next ≡ self.old.next + length (named (map defined_said names.now) (map type_said types.now))) }
+        ensures scope { OnOk result
+            (scope_at self.new ≡ scope_at self.old
+            ++ values.arg_values self.old.next
+            (named (map defined_said names.now) (map type_said types.now))) }
+        ensures next { OnOk result
+            (self.new.next ≡ self.old.next
+            + length (named (map defined_said names.now) (map type_said types.now))) }
     {
         behind(self.next, names.len())?;
         push_names(&mut self.scope, self.next, names, types)?;

@@ -20,7 +20,11 @@ pub fn note_region_end<'a>(
     kind: &'a [Branch],
     w: &mut Walked<'a>,
 ) -> Result<(), AllocError>
-    ensures { OnOk result (Notes w.old w.new (faults.region_ending (in_scope w.old) (source.word (said text.now.tokens.now kind.now)).at (wanted_types (said text.now.tokens.now kind.now)) (source.region_parts (said text.now.tokens.now kind.now)))) }
+    ensures { OnOk result
+        (Notes w.old w.new
+        (faults.region_ending (in_scope w.old) (source.word (said text.now.tokens.now kind.now)).at
+        (wanted_types (said text.now.tokens.now kind.now))
+        (source.region_parts (said text.now.tokens.now kind.now)))) }
 {
     let tokens = text.tokens;
     let wanted = wanted_of(text, kind)?;
@@ -44,7 +48,10 @@ pub fn note_else_end<'a>(
     kind: &'a [Branch],
     w: &mut Walked<'a>,
 ) -> Result<(), AllocError>
-    ensures { OnOk result (Notes w.old w.new (breaks_at_else (in_scope w.old) (said text.now.tokens.now kind.now) (wanted_types (said text.now.tokens.now kind.now)))) }
+    ensures { OnOk result
+        (Notes w.old w.new
+        (breaks_at_else (in_scope w.old) (said text.now.tokens.now kind.now)
+        (wanted_types (said text.now.tokens.now kind.now)))) }
 {
     let tokens = text.tokens;
     let wanted = wanted_of(text, kind)?;
@@ -72,7 +79,10 @@ pub fn note_before_end<'a>(
     kind: &'a [Branch],
     w: &mut Walked<'a>,
 ) -> Result<(), AllocError>
-    ensures { OnOk result (Notes w.old w.new (faults.condition_breaks (in_scope w.old) (said text.now.tokens.now kind.now) (wanted_types (said text.now.tokens.now kind.now)))) }
+    ensures { OnOk result
+        (Notes w.old w.new
+        (faults.condition_breaks (in_scope w.old) (said text.now.tokens.now kind.now)
+        (wanted_types (said text.now.tokens.now kind.now)))) }
 {
     let wanted = wanted_of(text, kind)?;
     note_condition(text, &w.scope, kind, &wanted, &mut w.first)?;
@@ -85,7 +95,10 @@ pub fn note_after_end<'a>(
     kind: &'a [Branch],
     w: &mut Walked<'a>,
 ) -> Result<(), AllocError>
-    ensures { OnOk result (Notes w.old w.new (faults.ending_breaks (in_scope w.old) (listed_tys (said text.now.tokens.now kind.now)) (source.ending terminals.Yield (source.after_parts (said text.now.tokens.now kind.now))))) }
+    ensures { OnOk result
+        (Notes w.old w.new
+        (faults.ending_breaks (in_scope w.old) (listed_tys (said text.now.tokens.now kind.now))
+        (source.ending terminals.Yield (source.after_parts (said text.now.tokens.now kind.now))))) }
 {
     let types = listed_of(text, kind)?;
     let parts = behind(text.tokens, kind, Terminal::Do);

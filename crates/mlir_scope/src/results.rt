@@ -11,7 +11,7 @@ ghost use Rattle.mlir_scope.specs.Arguments.{named, pack_of};
 
 use crate::digits::{CAP, capped};
 use crate::first::First;
-use crate::names::note_repeated;
+use crate::names::{note_one, note_repeated};
 use crate::said::{Defined, Packed, ValueType};
 use crate::scope::{Known, Scope};
 use mlir_ir::ScopeKind;
@@ -55,7 +55,8 @@ fn has_empty(packs: &[Packed]) -> bool
 /// Notes the packs with which an operation has too many results.
 #[tactic(auto, using(crate::proofs::Notes::noted_more, crate::proofs::Parted::cut_here))]
 fn note_many(packs: &[Packed], first: &mut First)
-    ensures { first.new.best ≡ noted first.old.best (faults.many_results 0 (map packed_said packs.now)) }
+    ensures { first.new.best
+        ≡ noted first.old.best (faults.many_results 0 (map packed_said packs.now)) }
 {
     let mut sum: u128 = 0;
     'each: for pack in packs {
@@ -66,7 +67,10 @@ fn note_many(packs: &[Packed], first: &mut First)
 
 /// The names of packs.
 fn pack_names<'a>(alloc: Global, packs: &[Packed<'a>]) -> Result<Vec<Defined<'a>>, AllocError>
-    ensures { IfOk result (λ v. map defined_said v.items ≡ map (λ (p : source.Packed). record { at = p.at; name = p.name }) (map packed_said packs.now)) }
+    ensures { IfOk result
+        (λ v. map defined_said v.items
+        ≡ map (λ (p : source.Packed). record { at = p.at; name = p.name })
+        (map packed_said packs.now)) }
 {
     let mut made = Vec::with_capacity(alloc, packs.len())?;
     'each: for pack in packs {
@@ -76,6 +80,38 @@ fn pack_names<'a>(alloc: Global, packs: &[Packed<'a>]) -> Result<Vec<Defined<'a>
         })?;
     }
     Ok(made)
+}
+
+/// Notes packs whose names are in scope, or that an earlier one of them has.
+fn note_pack_names<'a>(
+    alloc: Global,
+    scope: &mut Scope<'a>,
+    packs: &[Packed<'a>],
+    first: &mut First,
+) -> Result<(), AllocError>
+    ensures noted { OnOk result
+        (first.new.best
+        ≡ noted first.old.best
+        (faults.repeated (faults.names_of (scope_said scope.old))
+        (map (λ (p : source.Packed). record { at = p.at; name = p.name })
+        (map packed_said packs.now)))) }
+    ensures kept { OnOk result (scope_said scope.new ≡ scope_said scope.old) }
+{
+    match packs {
+        [] => Ok(()),
+        [pack] => {
+            let name = Defined {
+                at: pack.at,
+                name: pack.name,
+            };
+            note_one(scope, name, first);
+            Ok(())
+        }
+        _ => {
+            let names = pack_names(alloc, packs)?;
+            note_repeated(scope, &names, first)
+        }
+    }
 }
 
 /// Notes what the packs of an operation with so many results break; `at` is its word.
@@ -88,11 +124,13 @@ pub fn note_packs<'a>(
     packs: &[Packed<'a>],
     first: &mut First,
 ) -> Result<(), AllocError>
-    ensures noted { OnOk result (first.new.best ≡ noted first.old.best (faults.packs_breaks (scope_said scope.old) at results (map packed_said packs.now))) }
+    ensures noted { OnOk result
+        (first.new.best
+        ≡ noted first.old.best
+        (faults.packs_breaks (scope_said scope.old) at results (map packed_said packs.now))) }
     ensures kept { OnOk result (scope_said scope.new ≡ scope_said scope.old) }
 {
-    let names = pack_names(alloc, packs)?;
-    note_repeated(scope, &names, first)?;
+    note_pack_names(alloc, scope, packs, first)?;
     note_many(packs, first);
     let uneven = total(packs) != results as u128 || has_empty(packs);
     first.note_if(uneven, at, ScopeKind::Arity);
@@ -107,7 +145,9 @@ fn push_pack<'a>(
     types: &[ValueType],
 ) -> Result<(), AllocError>
     requires { at + length types.now < 2 ^ 64 }
-    ensures { OnOk result (scope_said scope.new ≡ scope_said scope.old ++ values.pack_values at (pack_of (packed_said pack.entry)) 0 (map type_said types.now)) }
+    ensures { OnOk result
+        (scope_said scope.new ≡ scope_said scope.old
+        ++ values.pack_values at (pack_of (packed_said pack.entry)) 0 (map type_said types.now)) }
 {
     'each: for (place, ty) in types.iter().enumerate() {
         scope.push(Known {
@@ -143,7 +183,10 @@ pub fn push_results<'a>(
     packs: &[Packed<'a>],
     types: &[ValueType],
 ) -> Result<(), AllocError>
-    ensures { OnOk result (scope_said scope.new ≡ scope_said scope.old ++ values.result_values 0 (packs_of (map packed_said packs.now)) (map type_said types.now)) }
+    ensures { OnOk result
+        (scope_said scope.new ≡ scope_said scope.old
+        ++ values.result_values 0 (packs_of (map packed_said packs.now))
+        (map type_said types.now)) }
 {
     let mut at = 0;
     'each: for pack in packs {
@@ -162,7 +205,9 @@ pub fn push_args<'a>(
     types: &[ValueType],
 ) -> Result<(), AllocError>
     requires { at + length names.now < 2 ^ 64 }
-    ensures { OnOk result (scope_said scope.new ≡ scope_said scope.old ++ values.arg_values at (named (map defined_said names.now) (map type_said types.now))) }
+    ensures { OnOk result
+        (scope_said scope.new ≡ scope_said scope.old
+        ++ values.arg_values at (named (map defined_said names.now) (map type_said types.now))) }
 {
     'each: for (i, name) in names.iter().enumerate() {
         match types.get(i) {

@@ -11,7 +11,8 @@ ghost use Rattle.mlir_scope.specs.Reading.{use_said, packed_said, defined_said, 
 
 use crate::digits::capped;
 use crate::phrase::{Part, Spot, first_spot, has, next};
-use mlir_ir::{Branch, Form, Terminal, Token, is_same_form, is_same_terminal};
+use crate::tokens::is_token;
+use mlir_ir::{Branch, Form, Terminal, Token, is_same_form};
 use std::alloc::{AllocError, Global};
 
 /// A name that is defined, at its token.
@@ -80,8 +81,9 @@ pub fn defined_at(spot: Spot) -> Defined
 }
 
 /// The use of a line.
-fn use_of<'a>(tokens: &'a [Token], at: u32, parts: &'a [Branch]) -> Use<'a>
-    ensures { use_said result ≡ source.use_of (record { at = at; parts = said tokens.now parts.now }) }
+pub(crate) fn use_of<'a>(tokens: &'a [Token], at: u32, parts: &'a [Branch]) -> Use<'a>
+    ensures { use_said result
+        ≡ source.use_of (record { at = at; parts = said tokens.now parts.now }) }
 {
     Use {
         at,
@@ -93,7 +95,10 @@ fn use_of<'a>(tokens: &'a [Token], at: u32, parts: &'a [Branch]) -> Use<'a>
 /// The digits of the number of results of a pack, which is 1 where none stands.
 #[tactic(auto, using(crate::proofs::Numbered::number_written, crate::proofs::Numbered::number_left_out))]
 fn count_digits<'a>(tokens: &'a [Token], parts: &'a [Branch]) -> &'a [u8]
-    ensures { digits_value 10 result.now ≡ source.first_number (map (λ (s : phrases.Spot). s.text) (phrases.spots terminals.Decimal (said tokens.now parts.now))) 1 }
+    ensures { digits_value 10 result.now
+        ≡ source.first_number
+        (map (λ (s : phrases.Spot). s.text)
+        (phrases.spots terminals.Decimal (said tokens.now parts.now))) 1 }
 {
     if has(tokens, parts, Terminal::Decimal) {
         first_spot(tokens, parts, Terminal::Decimal).text
@@ -104,7 +109,8 @@ fn count_digits<'a>(tokens: &'a [Token], parts: &'a [Branch]) -> &'a [u8]
 
 /// The pack of a line.
 fn pack_of<'a>(tokens: &'a [Token], at: u32, parts: &'a [Branch]) -> Packed<'a>
-    ensures { packed_said result ≡ source.packed (record { at = at; parts = said tokens.now parts.now }) }
+    ensures { packed_said result
+        ≡ source.packed (record { at = at; parts = said tokens.now parts.now }) }
 {
     Packed {
         at,
@@ -115,7 +121,9 @@ fn pack_of<'a>(tokens: &'a [Token], at: u32, parts: &'a [Branch]) -> Packed<'a>
 
 /// The type of a line.
 pub fn type_in(tokens: &[Token], parts: &[Branch]) -> ValueType
-    ensures { type_said result ≡ type_named (phrases.first_spot (phrases.spots terminals.TypeWord (said tokens.now parts.now))).text }
+    ensures { type_said result
+        ≡ type_named
+        (phrases.first_spot (phrases.spots terminals.TypeWord (said tokens.now parts.now))).text }
 {
     let text = first_spot(tokens, parts, Terminal::TypeWord).text;
     if same_bytes(text, "index".as_bytes()) {
@@ -152,7 +160,8 @@ pub fn types_in<'a>(
     tokens: &'a [Token],
     parts: &'a [Branch],
 ) -> Result<Vec<Written>, AllocError>
-    ensures { IfOk result (λ v. map written_said v.items ≡ source.types_in (said tokens.now parts.now)) }
+    ensures { IfOk result
+        (λ v. map written_said v.items ≡ source.types_in (said tokens.now parts.now)) }
 {
     let mut found = Vec::new(alloc);
     let mut rest = parts;
@@ -174,7 +183,9 @@ pub fn packs_in<'a>(
     tokens: &'a [Token],
     parts: &'a [Branch],
 ) -> Result<Vec<Packed<'a>>, AllocError>
-    ensures { IfOk result (λ v. map packed_said v.items ≡ map source.packed (phrases.lines forms.Pack (said tokens.now parts.now))) }
+    ensures { IfOk result
+        (λ v. map packed_said v.items
+        ≡ map source.packed (phrases.lines forms.Pack (said tokens.now parts.now))) }
 {
     let mut found = Vec::new(alloc);
     let mut rest = parts;
@@ -195,14 +206,16 @@ pub fn names_in<'a>(
     tokens: &'a [Token],
     parts: &'a [Branch],
 ) -> Result<Vec<Defined<'a>>, AllocError>
-    ensures { IfOk result (λ v. map defined_said v.items ≡ source.names_in (said tokens.now parts.now)) }
+    ensures { IfOk result
+        (λ v. map defined_said v.items ≡ source.names_in (said tokens.now parts.now)) }
 {
     let mut found = Vec::new(alloc);
     let mut rest = parts;
     'seek: while let Some((part, behind)) = next(tokens, rest) {
         rest = behind;
-        if let Part::Single(at, terminal, text) = part {
-            if is_same_terminal(Terminal::Value, terminal) {
+        if let Part::Single(at, token) = part {
+            if is_token(token, Terminal::Value) {
+                let text = token.text.as_bytes();
                 found.push(defined_at(Spot { at, text }))?;
             }
         }

@@ -33,7 +33,8 @@ fn is_used(u: Use, known: &Known) -> bool
 /// The type of the first value that is used.
 #[tactic(auto, using(crate::proofs::Parted::cut_here))]
 fn find_in(values: &[Known], u: Use) -> Option<ValueType>
-    ensures { option_map type_said result ≡ option_map (λ (v : Value). v.ty) (used (map known_said values.now) (use_said u.entry)) }
+    ensures { option_map type_said result
+        ≡ option_map (λ (v : Value). v.ty) (used (map known_said values.now) (use_said u.entry)) }
 {
     'seek: for known in values {
         if is_used(u, known) {
@@ -49,7 +50,8 @@ pub struct Scope<'a> {
     places: Table<'a>,
     // The same values at place 0, to be found by their names alone.
     names: Table<'a>,
-    ghost same: { map known_said names.values.items ≡ map at_name (map known_said places.values.items) },
+    ghost same: { map known_said names.values.items
+        ≡ map at_name (map known_said places.values.items) },
 }
 
 impl<'a> Scope<'a> {
@@ -74,7 +76,8 @@ impl<'a> Scope<'a> {
 
     /// Puts a value behind those in scope.
     pub fn push(&mut self, known: Known<'a>) -> Result<(), AllocError>
-        ensures { OnOk result (scope_said self.new ≡ scope_said self.old ++ known_said known.entry ∷ []) }
+        ensures { OnOk result
+            (scope_said self.new ≡ scope_said self.old ++ known_said known.entry ∷ []) }
     {
         let len = self.places.len();
         self.places.push(known)?;
@@ -119,7 +122,8 @@ impl<'a> Scope<'a> {
 
     /// The type of the value that is used.
     pub fn find(&self, u: Use) -> Option<ValueType>
-        ensures { option_map type_said result ≡ option_map (λ (v : Value). v.ty) (used (scope_said self.now) (use_said u.entry)) }
+        ensures { option_map type_said result
+            ≡ option_map (λ (v : Value). v.ty) (used (scope_said self.now) (use_said u.entry)) }
     {
         let pick = capped(10, u.pick);
         if pick >= CAP {

@@ -55,7 +55,8 @@ impl<'a> ScopeNames<'a> {
     /// The first value with that name and place.
     #[tactic(auto, using(crate::proofs::FirstPlaces::find_at_position, crate::proofs::FirstPlaces::find_none))]
     pub fn find(&self, name: &[u8], place: u32) -> Option<Named<'a>>
-        ensures { option_map value_of result ≡ find (is_named name.now place) (map value_of self.now.values.items) }
+        ensures { option_map value_of result
+            ≡ find (is_named name.now place) (map value_of self.now.values.items) }
     {
         match self.first.get(&(name, place)) {
             Some(index) => self.values.as_slice().get(*index).copied(),
@@ -65,8 +66,11 @@ impl<'a> ScopeNames<'a> {
 
     /// Adds a value behind the others.
     pub fn push(&mut self, value: Named<'a>) -> Result<(), AllocError>
-        ensures pushed { OnOk result (map value_of self.new.values.items ≡ map value_of self.old.values.items ++ value_of value.entry ∷ []) }
-        ensures failed { OnErr result (map value_of self.new.values.items ≡ map value_of self.old.values.items) }
+        ensures pushed { OnOk result
+            (map value_of self.new.values.items ≡ map value_of self.old.values.items
+            ++ value_of value.entry ∷ []) }
+        ensures failed { OnErr result
+            (map value_of self.new.values.items ≡ map value_of self.old.values.items) }
     {
         let index = self.values.len();
         let key = (value.name, value.place);
@@ -84,7 +88,8 @@ impl<'a> ScopeNames<'a> {
     /// Takes the last value out of scope.
     fn pop(&mut self)
         requires { 0 < length self.old.values.items }
-        ensures { self.new.values.items ≡ take (length self.old.values.items - 1) self.old.values.items }
+        ensures { self.new.values.items
+            ≡ take (length self.old.values.items - 1) self.old.values.items }
     {
         if let Some(value) = self.values.pop() {
             let key = (value.name, value.place);

@@ -26,8 +26,14 @@ pub fn params_in<'a>(
     tokens: &'a [Token],
     parts: &'a [Branch],
 ) -> Result<Params<'a>, AllocError>
-    ensures names { IfOk result (λ v. map defined_said v.names.items ≡ map (λ (p : source.Defined × source.Written). p.0) (source.params_in (said tokens.now parts.now))) }
-    ensures types { IfOk result (λ v. map written_said v.types.items ≡ map (λ (p : source.Defined × source.Written). p.1) (source.params_in (said tokens.now parts.now))) }
+    ensures names { IfOk result
+        (λ v. map defined_said v.names.items
+        ≡ map (λ (p : source.Defined × source.Written). p.0)
+        (source.params_in (said tokens.now parts.now))) }
+    ensures types { IfOk result
+        (λ v. map written_said v.types.items
+        ≡ map (λ (p : source.Defined × source.Written). p.1)
+        (source.params_in (said tokens.now parts.now))) }
 {
     let mut names = names_in(alloc, tokens, parts)?;
     let mut types = types_in(alloc, tokens, parts)?;
@@ -46,8 +52,11 @@ pub struct Args<'a> {
 
 /// The arguments of a function.
 pub fn args_of<'a>(alloc: Global, tokens: &'a [Token], f: Line<'a>) -> Result<Args<'a>, AllocError>
-    ensures names { IfOk result (λ v. map defined_said v.names.items ≡ arg_names (said tokens.now f.entry.parts.now)) }
-    ensures types { IfOk result (λ v. map type_said v.types.items ≡ rules.arg_types (resolved.func_args (line_said tokens.now f.entry))) }
+    ensures names { IfOk result
+        (λ v. map defined_said v.names.items ≡ arg_names (said tokens.now f.entry.parts.now)) }
+    ensures types { IfOk result
+        (λ v. map type_said v.types.items
+        ≡ rules.arg_types (resolved.func_args (line_said tokens.now f.entry))) }
 {
     let params = params_in(alloc, tokens, inside(tokens, f.parts, Form::Params))?;
     let listed = types_in(alloc, tokens, inside(tokens, f.parts, Form::Types))?;
@@ -89,7 +98,8 @@ pub fn signatures_of(
     tokens: &[Token],
     funcs: &[Line],
 ) -> Result<Vec<Signature>, AllocError>
-    ensures { IfOk result (λ v. map signature_said v.items ≡ map called (lines_said tokens.now funcs.now)) }
+    ensures { IfOk result
+        (λ v. map signature_said v.items ≡ map called (lines_said tokens.now funcs.now)) }
 {
     let mut made = Vec::with_capacity(alloc, funcs.len())?;
     'each: for f in funcs {

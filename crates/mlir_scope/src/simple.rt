@@ -13,6 +13,7 @@ use crate::endings::note_listed;
 use crate::first::First;
 use crate::kinds::{note_cast, note_same, result_types};
 use crate::literals::note_literal;
+use crate::own_uses::note_same_there;
 use crate::phrase::{first_spot, head, inside, word};
 use crate::said::{Use, ValueType, Written, defined_at, types_in, uses_in};
 use crate::scope::Scope;
@@ -25,7 +26,9 @@ use std::alloc::AllocError;
 
 /// Notes a condition that is no `i1`.
 pub fn note_truth(scope: &Scope, uses: &[Use], first: &mut First)
-    ensures { first.new.best ≡ noted first.old.best (faults.type_breaks (scope_said scope.now) (map use_said uses.now) (rules.truth ∷ [])) }
+    ensures { first.new.best
+        ≡ noted first.old.best
+        (faults.type_breaks (scope_said scope.now) (map use_said uses.now) (rules.truth ∷ [])) }
 {
     let truth = [ValueType::Int(1)];
     note_types(scope, uses, &truth, first);
@@ -34,7 +37,9 @@ pub fn note_truth(scope: &Scope, uses: &[Use], first: &mut First)
 /// Notes the first use that is one too many.
 #[tactic(auto, using(crate::proofs::Overs::over_found, crate::proofs::Overs::over_past))]
 fn note_over_uses(limit: usize, uses: &[Use], first: &mut First)
-    ensures { first.new.best ≡ noted first.old.best (faults.over limit (map (λ (u : source.Use). u.at) (map use_said uses.now))) }
+    ensures { first.new.best
+        ≡ noted first.old.best
+        (faults.over limit (map (λ (u : source.Use). u.at) (map use_said uses.now))) }
 {
     if let Some(u) = uses.get(limit) {
         first.note_if(true, u.at, ScopeKind::Limit);
@@ -44,7 +49,12 @@ fn note_over_uses(limit: usize, uses: &[Use], first: &mut First)
 /// Notes a condition that is no `i1`, and choices that don't have the written type.
 #[tactic(auto, using(crate::proofs::Notes::noted_two, crate::proofs::Simples::select_parts, crate::proofs::Simples::select_nothing))]
 fn note_select(scope: &Scope, uses: &[Use], types: &[Written], first: &mut First)
-    ensures { first.new.best ≡ noted first.old.best (faults.type_breaks (scope_said scope.now) (take 1 (map use_said uses.now)) (rules.truth ∷ []) ++ faults.same_written (scope_said scope.now) (drop 1 (map use_said uses.now)) (map written_said types.now)) }
+    ensures { first.new.best
+        ≡ noted first.old.best
+        (faults.type_breaks (scope_said scope.now) (take 1 (map use_said uses.now))
+        (rules.truth ∷ [])
+        ++ faults.same_written (scope_said scope.now) (drop 1 (map use_said uses.now))
+        (map written_said types.now)) }
 {
     if let Some((_, choices)) = uses.split_first() {
         note_truth(scope, uses, first);
@@ -60,7 +70,12 @@ fn note_call_types(
     callee: &Signature,
     first: &mut First,
 ) -> Result<(), AllocError>
-    ensures { OnOk result (first.new.best ≡ noted first.old.best (faults.call_types [] (source.word (said text.now.tokens.now kind.now)).at (said text.now.tokens.now kind.now) (signature_said callee.now).args (signature_said callee.now).results)) }
+    ensures { OnOk result
+        (first.new.best
+        ≡ noted first.old.best
+        (faults.call_types [] (source.word (said text.now.tokens.now kind.now)).at
+        (said text.now.tokens.now kind.now) (signature_said callee.now).args
+        (signature_said callee.now).results)) }
 {
     let args = types_in(
         text.alloc,
@@ -77,7 +92,10 @@ fn note_call_types(
 
 /// Notes a callee that isn't there, or the types of a call that aren't those of its callee.
 fn note_callee(text: &Text, kind: &[Branch], first: &mut First) -> Result<(), AllocError>
-    ensures { OnOk result (first.new.best ≡ noted first.old.best (faults.callee_breaks (funcs_in text.now) [] (said text.now.tokens.now kind.now))) }
+    ensures { OnOk result
+        (first.new.best
+        ≡ noted first.old.best
+        (faults.callee_breaks (funcs_in text.now) [] (said text.now.tokens.now kind.now))) }
 {
     let callee = defined_at(first_spot(text.tokens, kind, Terminal::Symbol));
     match text.callee(callee.name) {
@@ -95,7 +113,11 @@ fn note_call(
     kind: &[Branch],
     first: &mut First,
 ) -> Result<(), AllocError>
-    ensures { OnOk result (first.new.best ≡ noted first.old.best (faults.call_breaks (funcs_in text.now) (scope_said scope.now) (said text.now.tokens.now kind.now))) }
+    ensures { OnOk result
+        (first.new.best
+        ≡ noted first.old.best
+        (faults.call_breaks (funcs_in text.now) (scope_said scope.now)
+        (said text.now.tokens.now kind.now))) }
 {
     let uses = uses_in(
         text.alloc,
@@ -114,6 +136,29 @@ fn note_call(
     Ok(())
 }
 
+/// Notes what a cast breaks.
+#[tactic(auto, using(crate::proofs::Notes::noted_two))]
+fn note_cast_there(
+    text: &Text,
+    scope: &Scope,
+    kind: &[Branch],
+    first: &mut First,
+) -> Result<(), AllocError>
+    ensures { OnOk result
+        (first.new.best
+        ≡ noted first.old.best
+        (faults.same_written (scope_said scope.now)
+        (source.uses_in (said text.now.tokens.now kind.now))
+        (source.types_in (said text.now.tokens.now kind.now))
+        ++ faults.cast_breaks (said text.now.tokens.now kind.now)
+        (source.types_in (said text.now.tokens.now kind.now)))) }
+{
+    let types = types_in(text.alloc, text.tokens, kind)?;
+    note_same_there(text.tokens, scope, kind, first);
+    note_cast(text.tokens, kind, &types, first);
+    Ok(())
+}
+
 /// Notes what an operation without regions breaks besides its uses and its results.
 #[tactic(auto, using(crate::proofs::Notes::noted_two, crate::proofs::Simples::plain_breaks))]
 pub fn note_simple(
@@ -122,23 +167,23 @@ pub fn note_simple(
     kind: &[Branch],
     first: &mut First,
 ) -> Result<(), AllocError>
-    ensures { OnOk result (first.new.best ≡ noted first.old.best (faults.simple_breaks (funcs_in text.now) (scope_said scope.now) (source.head (said text.now.tokens.now kind.now)) (said text.now.tokens.now kind.now))) }
+    ensures { OnOk result
+        (first.new.best
+        ≡ noted first.old.best
+        (faults.simple_breaks (funcs_in text.now) (scope_said scope.now)
+        (source.head (said text.now.tokens.now kind.now)) (said text.now.tokens.now kind.now))) }
 {
-    let uses = uses_in(text.alloc, text.tokens, kind)?;
-    let types = types_in(text.alloc, text.tokens, kind)?;
     match head(text.tokens, kind) {
         Terminal::Constant => note_literal(text.tokens, kind, first),
-        Terminal::Cast => {
-            note_same(scope, &uses, &types, first);
-            note_cast(text.tokens, kind, &types, first);
+        Terminal::Cast => return note_cast_there(text, scope, kind, first),
+        Terminal::FlaggedCast => return note_cast_there(text, scope, kind, first),
+        Terminal::Select => {
+            let uses = uses_in(text.alloc, text.tokens, kind)?;
+            let types = types_in(text.alloc, text.tokens, kind)?;
+            note_select(scope, &uses, &types, first);
         }
-        Terminal::FlaggedCast => {
-            note_same(scope, &uses, &types, first);
-            note_cast(text.tokens, kind, &types, first);
-        }
-        Terminal::Select => note_select(scope, &uses, &types, first),
         Terminal::Call => return note_call(text, scope, kind, first),
-        _ => note_same(scope, &uses, &types, first),
+        _ => note_same_there(text.tokens, scope, kind, first),
     }
     Ok(())
 }

@@ -54,7 +54,10 @@ fn place_named(funcs: &[Defined], name: &[u8]) -> usize
 
 /// An operation on the first two of some values.
 fn binary_of(op: BinOp, flags: Flags, own: &[Label]) -> Kind
-    ensures { view_kind result ≡ plain.Simple (plain.Bin op flags (slice_index_or own.now 0 (record { 0 = 0 })) (slice_index_or own.now 1 (record { 0 = 0 }))) }
+    ensures { view_kind result
+        ≡ plain.Simple
+        (plain.Bin op flags (slice_index_or own.now 0 (record { 0 = 0 }))
+        (slice_index_or own.now 1 (record { 0 = 0 }))) }
 {
     Kind::Bin(op, flags, nth(own, 0), nth(own, 1))
 }
@@ -66,7 +69,11 @@ fn binary(
     scope: &ScopeNames,
     kind: &[Branch],
 ) -> Result<Kind, Unbuilt>
-    ensures { IfOk result (λ made. view_kind made ≡ plain.Simple (resolved.simple_kind [] (values_in scope.now) terminals.Binary (said tokens.now kind.now))) }
+    ensures { IfOk result
+        (λ made. view_kind made
+        ≡ plain.Simple
+        (resolved.simple_kind [] (values_in scope.now) terminals.Binary
+        (said tokens.now kind.now))) }
 {
     let own = own_labels(alloc, tokens, scope, kind)?;
     let op = bin_named(word(tokens, kind).text);
@@ -80,7 +87,10 @@ fn cast(
     scope: &ScopeNames,
     kind: &[Branch],
 ) -> Result<Kind, Unbuilt>
-    ensures { IfOk result (λ made. view_kind made ≡ plain.Simple (resolved.simple_kind [] (values_in scope.now) terminals.Cast (said tokens.now kind.now))) }
+    ensures { IfOk result
+        (λ made. view_kind made
+        ≡ plain.Simple
+        (resolved.simple_kind [] (values_in scope.now) terminals.Cast (said tokens.now kind.now))) }
 {
     let own = own_labels(alloc, tokens, scope, kind)?;
     let op = cast_named(word(tokens, kind).text);
@@ -94,7 +104,11 @@ fn compare(
     scope: &ScopeNames,
     kind: &[Branch],
 ) -> Result<Kind, Unbuilt>
-    ensures { IfOk result (λ made. view_kind made ≡ plain.Simple (resolved.simple_kind [] (values_in scope.now) terminals.Compare (said tokens.now kind.now))) }
+    ensures { IfOk result
+        (λ made. view_kind made
+        ≡ plain.Simple
+        (resolved.simple_kind [] (values_in scope.now) terminals.Compare
+        (said tokens.now kind.now))) }
 {
     let own = own_labels(alloc, tokens, scope, kind)?;
     let pred = pred_named(first_spot(tokens, kind, Terminal::Predicate).text);
@@ -108,7 +122,11 @@ fn select(
     scope: &ScopeNames,
     kind: &[Branch],
 ) -> Result<Kind, Unbuilt>
-    ensures { IfOk result (λ made. view_kind made ≡ plain.Simple (resolved.simple_kind [] (values_in scope.now) terminals.Select (said tokens.now kind.now))) }
+    ensures { IfOk result
+        (λ made. view_kind made
+        ≡ plain.Simple
+        (resolved.simple_kind [] (values_in scope.now) terminals.Select
+        (said tokens.now kind.now))) }
 {
     let own = own_labels(alloc, tokens, scope, kind)?;
     Ok(Kind::Select(nth(&own, 0), nth(&own, 1), nth(&own, 2)))
@@ -116,7 +134,11 @@ fn select(
 
 /// A call.
 fn call(alloc: Global, origin: Origin, scope: &ScopeNames, kind: &[Branch]) -> Result<Kind, Unbuilt>
-    ensures { IfOk result (λ made. view_kind made ≡ plain.Simple (resolved.simple_kind (names_said origin.entry.funcs.now) (values_in scope.now) terminals.Call (said origin.entry.tokens.now kind.now))) }
+    ensures { IfOk result
+        (λ made. view_kind made
+        ≡ plain.Simple
+        (resolved.simple_kind (names_said origin.entry.funcs.now)
+        (values_in scope.now) terminals.Call (said origin.entry.tokens.now kind.now))) }
 {
     let tokens = origin.tokens;
     let name = unsigned(first_spot(tokens, kind, Terminal::Symbol).text);
@@ -137,7 +159,12 @@ pub(crate) fn simple_kind(
     types: &[ValueType],
 ) -> Result<Kind, Unbuilt>
     requires { built.AreTypesOf types.now (said origin.tokens.now kind.now) }
-    ensures { IfOk result (λ made. view_kind made ≡ plain.Simple (resolved.simple_kind (names_said origin.entry.funcs.now) (values_in scope.now) (source.head (said origin.entry.tokens.now kind.now)) (said origin.entry.tokens.now kind.now))) }
+    ensures { IfOk result
+        (λ made. view_kind made
+        ≡ plain.Simple
+        (resolved.simple_kind (names_said origin.entry.funcs.now) (values_in scope.now)
+        (source.head (said origin.entry.tokens.now kind.now))
+        (said origin.entry.tokens.now kind.now))) }
 {
     let tokens = origin.tokens;
     match head(tokens, kind) {

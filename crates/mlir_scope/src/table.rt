@@ -45,7 +45,8 @@ impl<'a> Table<'a> {
     /// The first value with that name and place.
     #[tactic(auto, using(crate::proofs::FirstPlaces::find_at_position, crate::proofs::FirstPlaces::find_none))]
     pub fn find(&self, name: &[u8], place: usize) -> Option<Known<'a>>
-        ensures { option_map known_said result ≡ find (is_named name.now place) (map known_said self.now.values.items) }
+        ensures { option_map known_said result
+            ≡ find (is_named name.now place) (map known_said self.now.values.items) }
     {
         match self.first.get(&(name, place)) {
             Some(index) => self.values.as_slice().get(*index).copied(),
@@ -55,8 +56,11 @@ impl<'a> Table<'a> {
 
     /// Adds a value behind the others.
     pub fn push(&mut self, value: Known<'a>) -> Result<(), AllocError>
-        ensures pushed { OnOk result (map known_said self.new.values.items ≡ map known_said self.old.values.items ++ known_said value.entry ∷ []) }
-        ensures failed { OnErr result (map known_said self.new.values.items ≡ map known_said self.old.values.items) }
+        ensures pushed { OnOk result
+            (map known_said self.new.values.items ≡ map known_said self.old.values.items
+            ++ known_said value.entry ∷ []) }
+        ensures failed { OnErr result
+            (map known_said self.new.values.items ≡ map known_said self.old.values.items) }
     {
         let index = self.values.len();
         let key = (value.name, value.place);
@@ -74,7 +78,8 @@ impl<'a> Table<'a> {
     /// Takes the last value out of scope.
     fn pop(&mut self)
         requires { 0 < length self.old.values.items }
-        ensures { self.new.values.items ≡ take (length self.old.values.items - 1) self.old.values.items }
+        ensures { self.new.values.items
+            ≡ take (length self.old.values.items - 1) self.old.values.items }
     {
         if let Some(value) = self.values.pop() {
             let key = (value.name, value.place);

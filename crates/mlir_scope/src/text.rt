@@ -18,7 +18,9 @@ fn names_of<'a>(
     tokens: &'a [Token],
     funcs: &[Line<'a>],
 ) -> Result<Scope<'a>, AllocError>
-    ensures { IfOk result (λ s. scope_said s ≡ numbered 0 (map resolved.func_name (lines_said tokens.now funcs.now))) }
+    ensures { IfOk result
+        (λ s. scope_said s
+        ≡ numbered 0 (map resolved.func_name (lines_said tokens.now funcs.now))) }
 {
     let mut names = Scope::new(alloc);
     'each: for (i, f) in funcs.iter().enumerate() {
@@ -41,8 +43,10 @@ pub struct Text<'a> {
     pub funcs: &'a [Line<'a>],
     signatures: Vec<Signature>,
     names: Scope<'a>,
-    ghost listed: { map signature_said signatures.items ≡ map called (lines_said tokens.now funcs.now) },
-    ghost named: { scope_said names ≡ numbered 0 (map resolved.func_name (lines_said tokens.now funcs.now)) },
+    ghost listed: { map signature_said signatures.items
+        ≡ map called (lines_said tokens.now funcs.now) },
+    ghost named: { scope_said names
+        ≡ numbered 0 (map resolved.func_name (lines_said tokens.now funcs.now)) },
 }
 
 impl<'a> Text<'a> {
@@ -70,7 +74,8 @@ impl<'a> Text<'a> {
 
     /// The types of the first function that has the name.
     pub fn callee(&self, name: &[u8]) -> Option<&Signature>
-        ensures { has_signature (find (λ f. bytes_eq (resolved.func_name f) name.now) (funcs_in self.now)) result }
+        ensures { has_signature
+            (find (λ f. bytes_eq (resolved.func_name f) name.now) (funcs_in self.now)) result }
     {
         match self.names.first_named(name) {
             Some(index) => self.signatures.as_slice().get(index),

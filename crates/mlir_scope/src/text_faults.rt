@@ -14,11 +14,12 @@ ghost use Rattle.mlir_scope.specs.Functions.{lines_said};
 ghost use Rattle.mlir_scope.specs.Noted.{noted};
 ghost use Rattle.mlir_scope.specs.Reading.{defined_said};
 ghost use Rattle.mlir_scope.specs.Said.{said, line_said};
-ghost use Rattle.mlir_scope.specs.TextParts.{has_long_name, module_breaks};
+ghost use Rattle.mlir_scope.specs.Texts.{funcs_in};
+ghost use Rattle.mlir_scope.specs.TextParts.{has_long_name, list_breaks};
 
 use crate::blocks::Ops;
 use crate::first::{First, ScopeFault};
-use crate::function_faults::note_funcs;
+use crate::function_faults::note_func;
 use crate::limits::{add_op_tokens, has_value_name, note_over};
 use crate::names::note_repeated;
 use crate::phrase::{Line, first_spot, lines};
@@ -106,21 +107,48 @@ fn add_func_ops(found: &mut Vec<u32>, tokens: &[Token], bodies: &[Line]) -> Resu
     Ok(())
 }
 
-/// The tokens where the operations of the functions begin.
-fn all_op_tokens(alloc: Global, tokens: &[Token], funcs: &[Line]) -> Result<Vec<u32>, AllocError>
-    ensures { IfOk result (λ v. v.items
-        ≡ flat_map faults.func_op_tokens (lines_said tokens.now funcs.now)) }
+/// Puts the tokens where the operations of a function begin behind those found.
+fn add_line_ops(
+    alloc: Global,
+    found: &mut Vec<u32>,
+    tokens: &[Token],
+    f: Line,
+) -> Result<(), AllocError>
+    ensures { OnOk result (found.new.items ≡ found.old.items
+        ++ faults.func_op_tokens (line_said tokens.now f.entry)) }
 {
-    let mut found = Vec::new(alloc);
-    'each: for f in funcs {
-        let bodies = lines(alloc, tokens, f.parts, Form::Body)?;
-        add_func_ops(&mut found, tokens, &bodies)?;
-    }
-    Ok(found)
+    let bodies = lines(alloc, tokens, f.parts, Form::Body)?;
+    add_func_ops(found, tokens, &bodies)
 }
 
-/// Notes what the functions break together: their number, that of their operations, their names.
-#[tactic(auto, using(crate::proofs::Notes::noted_three))]
+/// Notes what the functions break, and puts the tokens where their operations begin behind those
+/// found.
+#[tactic(auto, using(crate::proofs::Notes::noted_more, crate::proofs::Parted::cut_here, crate::proofs::TextNotes::op_tokens_step))]
+fn note_funcs<'a>(
+    text: &Text<'a>,
+    funcs: &[Line<'a>],
+    ops: &mut Vec<u32>,
+    first: &mut First,
+) -> Result<(), AllocError>
+    ensures noted { OnOk result
+        (first.new.best
+        ≡ noted first.old.best
+        (flat_map (faults.func_breaks (funcs_in text.now))
+        (map (line_said text.now.tokens.now) funcs.now))) }
+    ensures ops { OnOk result
+        (ops.new.items ≡ ops.old.items
+        ++ flat_map faults.func_op_tokens (map (line_said text.now.tokens.now) funcs.now)) }
+{
+    'each: for f in funcs {
+        add_line_ops(text.alloc, ops, text.tokens, *f)?;
+        note_func(text, *f, first)?;
+    }
+    Ok(())
+}
+
+/// Notes what the functions break together besides the number of their operations: how many they
+/// are, and their names.
+#[tactic(auto, using(crate::proofs::Notes::noted_two))]
 fn note_module(
     alloc: Global,
     tokens: &[Token],
@@ -128,14 +156,12 @@ fn note_module(
     first: &mut First,
 ) -> Result<(), AllocError>
     ensures { OnOk result (first.new.best
-        ≡ noted first.old.best (module_breaks (lines_said tokens.now funcs.now))) }
+        ≡ noted first.old.best (list_breaks (lines_said tokens.now funcs.now))) }
 {
     let found = func_tokens(alloc, funcs)?;
-    let ops = all_op_tokens(alloc, tokens, funcs)?;
     let names = func_names(alloc, tokens, funcs)?;
     let mut none = Scope::new(alloc);
     note_over(FUNC_LIMIT, &found, first);
-    note_over(MODULE_OP_LIMIT as usize, &ops, first);
     note_repeated(&mut none, &names, first)
 }
 
@@ -153,6 +179,8 @@ pub fn first_fault(alloc: Global, syntax: &Syntax) -> Result<Option<ScopeFault>,
     note_long(tokens, &mut first);
     note_module(alloc, tokens, &funcs, &mut first)?;
     let text = Text::new(alloc, tokens, &funcs)?;
-    note_funcs(&text, &funcs, &mut first)?;
+    let mut ops = Vec::new(alloc);
+    note_funcs(&text, &funcs, &mut ops, &mut first)?;
+    note_over(MODULE_OP_LIMIT as usize, &ops, &mut first);
     Ok(first.best)
 }

@@ -7,12 +7,12 @@ ghost use Rattle.mlir_scope.specs.Reading.{use_said};
 ghost use Rattle.mlir_scope.specs.Said.{said};
 
 use crate::digits::capped;
-use crate::phrase::inside;
-use crate::said::{Use, same_bytes, uses_in};
+use crate::phrase::{Part, inside, next};
+use crate::said::{Use, same_bytes, use_of};
 use crate::scope_names::{Named, ScopeNames};
 use crate::unbuilt::Unbuilt;
 use arith_word::{Label, List};
-use mlir_ir::{Branch, Form, Token};
+use mlir_ir::{Branch, Form, Token, is_same_form};
 use std::alloc::Global;
 
 /// Whether the value is used.
@@ -57,7 +57,8 @@ pub(crate) fn labels_of(
     scope: &ScopeNames,
     uses: &[Use],
 ) -> Result<Vec<Label>, Unbuilt>
-    ensures { IfOk result (λ made. made.items ≡ resolved.labels (values_in scope.now) (map use_said uses.now)) }
+    ensures { IfOk result
+        (λ made. made.items ≡ resolved.labels (values_in scope.now) (map use_said uses.now)) }
 {
     let mut made = Vec::with_capacity(alloc, uses.len())?;
     'each: for u in uses {
@@ -83,10 +84,21 @@ pub(crate) fn own_labels(
     scope: &ScopeNames,
     kind: &[Branch],
 ) -> Result<Vec<Label>, Unbuilt>
-    ensures { IfOk result (λ made. made.items ≡ resolved.labels (values_in scope.now) (source.uses_in (said tokens.now kind.now))) }
+    ensures { IfOk result
+        (λ made. made.items
+        ≡ resolved.labels (values_in scope.now) (source.uses_in (said tokens.now kind.now))) }
 {
-    let uses = uses_in(alloc, tokens, kind)?;
-    labels_of(alloc, scope, &uses)
+    let mut made = Vec::new(alloc);
+    let mut rest = kind;
+    'seek: while let Some((part, behind)) = next(tokens, rest) {
+        rest = behind;
+        if let Part::Line(form, at, inner) = part {
+            if is_same_form(Form::Use, form) {
+                made.push(label_of(scope, use_of(tokens, at, inner)))?;
+            }
+        }
+    }
+    Ok(made)
 }
 
 /// The label of the first use that stands directly there.
@@ -96,7 +108,8 @@ pub(crate) fn first_use(
     scope: &ScopeNames,
     kind: &[Branch],
 ) -> Result<Label, Unbuilt>
-    ensures { IfOk result (λ label. label ≡ resolved.nth_use (values_in scope.now) 0 (said tokens.now kind.now)) }
+    ensures { IfOk result
+        (λ label. label ≡ resolved.nth_use (values_in scope.now) 0 (said tokens.now kind.now)) }
 {
     let own = own_labels(alloc, tokens, scope, kind)?;
     Ok(nth(&own, 0))
@@ -109,7 +122,9 @@ pub(crate) fn listed_labels(
     scope: &ScopeNames,
     parts: &[Branch],
 ) -> Result<List<Label>, Unbuilt>
-    ensures { IfOk result (λ made. made ≡ resolved.labels (values_in scope.now) (source.listed_uses (said tokens.now parts.now))) }
+    ensures { IfOk result
+        (λ made. made
+        ≡ resolved.labels (values_in scope.now) (source.listed_uses (said tokens.now parts.now))) }
 {
     let made = own_labels(alloc, tokens, scope, inside(tokens, parts, Form::Uses))?;
     Ok(List::from_vec(made))

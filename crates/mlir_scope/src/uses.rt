@@ -36,20 +36,25 @@ pub fn tys(alloc: Global, types: &[Written]) -> Result<Vec<ValueType>, AllocErro
 }
 
 /// Notes what a use breaks, at an operation or terminator whose word has that token.
-#[tactic(auto, using(crate::proofs::Notes::noted_more))]
+#[tactic(auto, using(crate::proofs::UsesFound::use_missing))]
 pub fn note_use(scope: &Scope, at: u32, u: Use, first: &mut First)
-    ensures { first.new.best ≡ noted first.old.best (faults.use_breaks (scope_said scope.now) at (use_said u.entry)) }
+    ensures { first.new.best
+        ≡ noted first.old.best (faults.use_breaks (scope_said scope.now) at (use_said u.entry)) }
 {
+    if scope.find(u).is_some() {
+        return;
+    }
     let known = scope.has(u.name);
     first.note_if(!known, u.at, ScopeKind::Unknown);
-    let given = scope.find(u).is_some();
-    first.note_if(known && !given, at, ScopeKind::Arity);
+    first.note_if(known, at, ScopeKind::Arity);
 }
 
 /// Notes what uses break, at an operation or terminator whose word has that token.
 #[tactic(auto, using(crate::proofs::Notes::noted_more))]
 pub fn note_uses(scope: &Scope, at: u32, uses: &[Use], first: &mut First)
-    ensures { first.new.best ≡ noted first.old.best (faults.uses_breaks (scope_said scope.now) at (map use_said uses.now)) }
+    ensures { first.new.best
+        ≡ noted first.old.best
+        (faults.uses_breaks (scope_said scope.now) at (map use_said uses.now)) }
 {
     'each: for u in uses {
         note_use(scope, at, *u, first);
@@ -57,7 +62,7 @@ pub fn note_uses(scope: &Scope, at: u32, uses: &[Use], first: &mut First)
 }
 
 /// Whether a use has another type.
-fn differs(scope: &Scope, u: Use, ty: ValueType) -> bool
+pub(crate) fn differs(scope: &Scope, u: Use, ty: ValueType) -> bool
     ensures { result ≡ faults.differs (scope_said scope.now) (use_said u.entry) (type_said ty) }
 {
     match scope.find(u) {
@@ -69,7 +74,11 @@ fn differs(scope: &Scope, u: Use, ty: ValueType) -> bool
 /// Notes uses that have another type.
 #[tactic(auto, using(crate::proofs::Notes::noted_more))]
 pub fn note_differing(scope: &Scope, uses: &[Use], ty: ValueType, first: &mut First)
-    ensures { first.new.best ≡ noted first.old.best (flat_map (λ u. faults.broken (faults.differs (scope_said scope.now) u (type_said ty)) u.at ScopeKind.WrongType) (map use_said uses.now)) }
+    ensures { first.new.best
+        ≡ noted first.old.best
+        (flat_map (λ u. faults.broken
+        (faults.differs (scope_said scope.now) u (type_said ty)) u.at ScopeKind.WrongType)
+        (map use_said uses.now)) }
 {
     'each: for u in uses {
         let other = differs(scope, *u, ty);
@@ -80,7 +89,10 @@ pub fn note_differing(scope: &Scope, uses: &[Use], ty: ValueType, first: &mut Fi
 /// Notes uses that don't have the types that belong to them, as far as both lists go.
 #[tactic(auto, using(crate::proofs::Notes::noted_more, crate::proofs::Parted::cut_here, crate::proofs::Parted::cut_past))]
 pub fn note_types(scope: &Scope, uses: &[Use], types: &[ValueType], first: &mut First)
-    ensures { first.new.best ≡ noted first.old.best (faults.type_breaks (scope_said scope.now) (map use_said uses.now) (map type_said types.now)) }
+    ensures { first.new.best
+        ≡ noted first.old.best
+        (faults.type_breaks (scope_said scope.now) (map use_said uses.now)
+        (map type_said types.now)) }
 {
     'each: for (i, u) in uses.iter().enumerate() {
         match types.get(i) {
@@ -96,7 +108,9 @@ pub fn note_types(scope: &Scope, uses: &[Use], types: &[ValueType], first: &mut 
 /// Notes written types that aren't those that they belong to, as far as both lists go.
 #[tactic(auto, using(crate::proofs::Notes::noted_more))]
 pub fn note_written(types: &[Written], wanted: &[ValueType], first: &mut First)
-    ensures { first.new.best ≡ noted first.old.best (faults.written_breaks (map written_said types.now) (map type_said wanted.now)) }
+    ensures { first.new.best
+        ≡ noted first.old.best
+        (faults.written_breaks (map written_said types.now) (map type_said wanted.now)) }
 {
     let mut rest = types;
     let mut left = wanted;

@@ -20,3 +20,6 @@ decreases-block_labels l = steps (operations l.text.now.tokens.now l.ops)
 
 abbrev pub decreases-op_labels : goal.decreases-op_labels
 decreases-op_labels l = 5 + inner_steps (said l.text.now.tokens.now l.o.kind.now)
+
+abbrev pub decreases-inner_labels : goal.decreases-inner_labels
+decreases-inner_labels l = 4 + inner_steps (said l.text.now.tokens.now l.kind.now)

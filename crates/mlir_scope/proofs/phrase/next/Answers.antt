@@ -7,7 +7,7 @@ returns-in-Some-get c =
     let cut = c.in-Some.ensures.cases in
     let found = c.in-Some-get.ensures.lookup in
     let step = said_token c.args.tokens.now c.loop-first.rest.now c.in-Some.behind.now c.in-Some.first.now c.in-Some-get.token.now cut.0 c.in-Leaf.is found.0 found.1 in
-    (rw (c.terminal_of.ensures, c.as_bytes.ensures) (sym c.loop-first.invariant.0 ∙ step), omega arith)
+    (sym c.loop-first.invariant.0 ∙ step, omega arith)
 
 pub loop-first-preserved : goal.loop-first-preserved
 loop-first-preserved c =

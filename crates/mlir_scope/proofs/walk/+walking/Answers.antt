@@ -1,9 +1,12 @@
-use Rattle.std.proofs.Common.{◌+◌, ◌++◌, List, take, [], ◌∷◌, refl, arith, ap, ◌∙◌, sym, subst}
+use Rattle.std.proofs.Common.{◌≡◌, ◌+◌, ◌++◌, List, map, take, [], ◌∷◌, refl, arith, ap, ◌∙◌, sym, subst}
 use Rattle.std.specs.Result.{OnOk}
 use Rattle.mlir_ir.specs.Rules as rules
 use Rattle.mlir_ir.specs.ScopeFaults as faults
 use Rattle.mlir_ir.specs.Source as source
-use Rattle.mlir_ir.specs.Values.{Value}
+use Rattle.mlir_ir.specs.Values.{Value, result_values}
+use Rattle.mlir_ir.specs.Resolved.{packs_of}
+use Rattle.mlir_scope.specs.Owns.{values_of_own}
+use Rattle.mlir_scope.specs.Reading.{type_said}
 use Rattle.mlir_ir.specs.declared.terminal.Terminal.{Terminal}
 use Rattle.mlir_ir.specs.declared.terminal.Terminal.TheVariants as terminals
 use Rattle.mlir_scope.specs.Blocks.{operations}
@@ -256,7 +259,12 @@ note_block-each-preserved t c =
     let scope = in_scope c.each.w in
     let own = c.in_ok-note_own.ensures in
     let kinds = c.in_ok-note_kind.ensures in
-    let put = c.in_ok-push_own.ensures ∙ ap (λ (s : List Value). s ++ values_of_operation packs kind) (kinds.same ∙ own.same) in
+    let results = c.in_ok-own.ensures in
+    let values : values_of_own c.in_ok-own.own ≡ values_of_operation packs kind =
+    ap (λ ps. result_values 0 (packs_of ps) (map type_said c.in_ok-own.own.types.items)) results.named ∙ ap (result_values 0 (packs_of packs)) results.typed in
+    let put =
+    c.in_ok-push_own.ensures ∙ ap (λ (s : List Value). s ++ values_of_own c.in_ok-own.own) (kinds.same ∙ own.same)
+    ∙ ap (λ (vs : List Value). in_scope c.each.w ++ vs) values in
     let rest = operations tokens c.in-Some.rest in
     let all = operations tokens c.each.left in
     let step =

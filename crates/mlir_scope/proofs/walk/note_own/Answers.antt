@@ -1,14 +1,13 @@
-use Rattle.std.proofs.Common.{◌≡◌, List, map, length, ap, ◌∙◌, sym, arith}
+use Rattle.std.proofs.Common.{refl, ◌≡◌, List, map, length, ap, ◌∙◌, sym, arith}
 use Rattle.std.proofs.lemmas.List.{length-map}
 use Rattle.mlir_ir.specs.Resolved.{tys}
-use Rattle.mlir_ir.specs.ScopeFaults.{uses_breaks, packs_breaks}
+use Rattle.mlir_ir.specs.ScopeFaults.{operands, packs_breaks}
 use Rattle.mlir_ir.specs.Source.{head, op_types}
 use Rattle.mlir_scope.specs.Noted.{noted}
-use Rattle.mlir_scope.specs.Reading.{type_said, use_said, packed_said}
+use Rattle.mlir_scope.specs.Reading.{type_said, packed_said}
 use Rattle.mlir_scope.specs.Said.{said}
 use Rattle.mlir_scope.specs.Walks.{in_scope, packs_said}
 use Rattle.mlir_scope.specs.declared.said.Packed.{Packed}
-use Rattle.mlir_scope.specs.declared.said.Use.{Use}
 use Rattle.mlir_scope.proofs.WalkParts.{own_noted}
 use Rattle.mlir_scope.proofs.walk.note_own.Goals as goal
 
@@ -18,15 +17,15 @@ returns c =
     let scope = in_scope c.args.w.now in
     let best = c.args.w.now.first.best in
     let at = c.word-at.result.at in
-    let types = c.in_ok-types.types in
+    let own = c.args.own.now in
     let n : c.len.result ≡ length (tys (op_types (head kind) kind)) =
-    omega (arith, c.len.ensures, types.ok.0, sym (length-map types.items type_said) ∙ ap length c.in_ok-types.ensures) in
+    omega (arith, c.len.ensures, own.types.ok.0, sym (length-map own.types.items type_said) ∙ ap length c.requires.typed) in
     record {
       noted_all =
-          own_noted scope kind at c.len.result (map use_said c.in_ok-uses.uses.items) (map packed_said c.in_ok-packs.packs.items) (packs_said c.args.text.now.tokens.now c.args.o)
-          best c.note_uses.new.first.best c.note_packs.new.first.best
-          (ap (λ s. s.at) c.word-at.ensures) c.in_ok-uses.ensures n c.in_ok-packs.ensures
-          (c.note_uses.ensures ∙ ap (λ (xs : List Use). noted best (uses_breaks scope at (map use_said xs))) c.deref.ensures.value)
-          (c.in_ok-note_packs.ensures.noted ∙ ap (λ (xs : List Packed). noted c.note_uses.new.first.best (packs_breaks scope at c.len.result (map packed_said xs))) c.deref-2.ensures.value);
+          own_noted scope kind at c.len.result (operands (head kind) kind) (map packed_said own.packs.items) (packs_said c.args.text.now.tokens.now c.args.o)
+          best c.note_operands.new.first.best c.note_packs.new.first.best
+          (ap (λ s. s.at) c.word-at.ensures) refl n c.requires.named
+          c.in_ok-note_operands.ensures
+          (c.in_ok-note_packs.ensures.noted ∙ ap (λ (xs : List Packed). noted c.note_operands.new.first.best (packs_breaks scope at c.len.result (map packed_said xs))) c.deref.ensures.value);
       same = c.in_ok-note_packs.ensures.kept;
     }

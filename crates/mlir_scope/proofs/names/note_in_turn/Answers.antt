@@ -3,7 +3,7 @@ use Rattle.mlir_scope.specs.Reading.{defined_said}
 use Rattle.mlir_scope.specs.Scopes.{scope_said}
 use Rattle.mlir_scope.proofs.Parted.{cut_at}
 use Rattle.mlir_scope.proofs.Repeats.{repeated_step, kept_before}
-use Rattle.mlir_scope.proofs.names.note_repeated.Goals as goal
+use Rattle.mlir_scope.proofs.names.note_in_turn.Goals as goal
 
 pub each-preserved : goal.each-preserved
 each-preserved c =

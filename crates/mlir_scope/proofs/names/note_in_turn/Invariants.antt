@@ -3,7 +3,7 @@ use Rattle.mlir_ir.specs.ScopeFaults as faults
 use Rattle.mlir_scope.specs.Noted.{noted}
 use Rattle.mlir_scope.specs.Reading.{defined_said}
 use Rattle.mlir_scope.specs.Scopes.{scope_said}
-use Rattle.mlir_scope.proofs.names.note_repeated.Given as goal
+use Rattle.mlir_scope.proofs.names.note_in_turn.Given as goal
 
 abbrev pub invariant-each : goal.invariant-each
 invariant-each l =
