@@ -4,7 +4,10 @@ pub mod Iterations
 pub mod Lists
 pub mod Loops
 pub mod Rounds
+pub mod SameRuns
 pub mod Scopes
+pub mod ScopedLoops
+pub mod ScopedRuns
 pub mod Simples
 pub mod Simulation
 pub mod LoopLabels

@@ -26,7 +26,7 @@ or_cases true y e = inl refl
 or_cases false y e = inr e
 
 -- how many values a yield gives where it has to give some
-yields_many : (results : List IrType) (ends : List Label) → yields results ends ≡ true → ((length results == 0) || nat_lt 0 (length ends)) ≡ true → length ends ≡ length results
+pub yields_many : (results : List IrType) (ends : List Label) → yields results ends ≡ true → ((length results == 0) || nat_lt 0 (length ends)) ≡ true → length ends ≡ length results
 yields_many results ends y c =
     elim (or_cases (length ends == 0) (length ends == length results) y) as (λ _. length ends ≡ length results) [
       | inl none ↦
@@ -51,7 +51,7 @@ both_counts : (x y z : Bool) → (x || (y && z)) ≡ true → ((x || y) ≡ true
 both_counts true y z e = (refl, refl)
 both_counts false y z e = and_parts y z e
 
-if_counts : (results : List IrType) (firsts others : List Label) → ((length results == 0) || (nat_lt 0 (length firsts) && nat_lt 0 (length others))) ≡ true
+pub if_counts : (results : List IrType) (firsts others : List Label) → ((length results == 0) || (nat_lt 0 (length firsts) && nat_lt 0 (length others))) ≡ true
     → (((length results == 0) || nat_lt 0 (length firsts)) ≡ true) × (((length results == 0) || nat_lt 0 (length others)) ≡ true)
 if_counts results firsts others c = both_counts (length results == 0) (nat_lt 0 (length firsts)) (nat_lt 0 (length others)) c
 

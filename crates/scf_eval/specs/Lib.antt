@@ -1,3 +1,4 @@
 pub mod Layout
 pub mod Machine
 pub mod States
+pub mod InScope

@@ -85,7 +85,9 @@ fn outcome_of(
     flow: Result<(), Halt>,
     ret: &[Label],
 ) -> Result<Outcome, AllocError>
-    ensures { IfOk result (λ outcome. Tells flow (seen (slots input.now) (numbers values.now.items) ret.now) (plain_outcome outcome)) }
+    ensures { IfOk result
+        (λ outcome. Tells flow (seen (slots input.now) (numbers values.now.items) ret.now)
+        (plain_outcome outcome)) }
 {
     match flow {
         Ok(()) => Ok(Outcome::Ended(words_of(input, values, ret)?)),
@@ -106,8 +108,12 @@ fn run_body(
     budget: u64,
 ) -> Result<Run, AllocError>
     requires { IsRunnable f.now body.now args.now }
-    ensures outcome { IfOk result (λ r. plain_outcome r.outcome ≡ (runs.run_body f.now body.now args.now replies.now budget).outcome) }
-    ensures trace { IfOk result (λ r. map event_of r.trace ≡ (runs.run_body f.now body.now args.now replies.now budget).trace) }
+    ensures outcome { IfOk result
+        (λ r. plain_outcome r.outcome
+        ≡ (runs.run_body f.now body.now args.now replies.now budget).outcome) }
+    ensures trace { IfOk result
+        (λ r. map event_of r.trace
+        ≡ (runs.run_body f.now body.now args.now replies.now budget).trace) }
 {
     let items = body.items.as_slice();
     let params = f.args.as_slice();
@@ -146,8 +152,10 @@ pub fn run(
 ) -> Result<Run, AllocError>
     requires well_formed { IsWellFormed f.now }
     requires arguments { length args.now ≡ length f.now.args }
-    ensures outcome { IfOk result (λ r. plain_outcome r.outcome ≡ (runs.run_of f.now args.now replies.now budget).outcome) }
-    ensures trace { IfOk result (λ r. map event_of r.trace ≡ (runs.run_of f.now args.now replies.now budget).trace) }
+    ensures outcome { IfOk result
+        (λ r. plain_outcome r.outcome ≡ (runs.run_of f.now args.now replies.now budget).outcome) }
+    ensures trace { IfOk result
+        (λ r. map event_of r.trace ≡ (runs.run_of f.now args.now replies.now budget).trace) }
 {
     match &f.body {
         Some(body) => Ok(run_body(alloc, f, body, args, replies, budget)?),

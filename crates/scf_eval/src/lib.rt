@@ -5,6 +5,7 @@
 mod function;
 mod input;
 mod labels;
+mod laws;
 mod machine;
 mod memory;
 mod outcome;
@@ -15,4 +16,5 @@ mod tests;
 mod walk;
 
 pub use function::run;
+pub use laws::scope_decides;
 pub use outcome::{Event, Outcome, Run};

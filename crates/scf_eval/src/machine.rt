@@ -47,7 +47,8 @@ pub(crate) fn yields(
     number: Option<u64>,
 ) -> Result<(), Halt>
     requires { pos < 2 ^ 32 }
-    ensures ends { Follows result input.now m.old m.new (λ values s. spec.yields pos results.now values s number) }
+    ensures ends { Follows result input.now m.old m.new
+        (λ values s. spec.yields pos results.now values s number) }
     ensures spends { m.old.spent ≤ m.new.spent }
 {
     match number {
@@ -83,7 +84,8 @@ pub(crate) fn call(
     passed: &[Label],
 ) -> Result<(), Halt>
     requires { pos < 2 ^ 32 }
-    ensures ends { Follows result input.now m.old m.new (call_steps input.now pos callee passed.now results.now) }
+    ensures ends { Follows result input.now m.old m.new
+        (call_steps input.now pos callee passed.now results.now) }
     ensures spends { m.old.spent ≤ m.new.spent }
 {
     spend(input, &mut m.spent)?;
@@ -135,7 +137,8 @@ pub(crate) fn begin_round(
     passed: &[Label],
 ) -> Result<(), Halt>
     requires { params < 2 ^ 32 }
-    ensures { Begins result input.now m.old m.new (spec.copied (slots input.now) (held m.old) params passed.now) }
+    ensures { Begins result input.now m.old m.new
+        (spec.copied (slots input.now) (held m.old) params passed.now) }
 {
     spend(input, &mut m.spent)?;
     copy(input, &mut m.values, params, passed);

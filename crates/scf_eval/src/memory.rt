@@ -61,7 +61,9 @@ pub(crate) fn words_of(
     values: &Vec<Word>,
     labels: &[Label],
 ) -> Result<List<Word>, AllocError>
-    ensures { IfOk result (λ words. numbers words ≡ spec.seen (slots input.now) (numbers values.now.items) labels.now) }
+    ensures { IfOk result
+        (λ words. numbers words
+        ≡ spec.seen (slots input.now) (numbers values.now.items) labels.now) }
 {
     let mut words = Vec::with_capacity(input.alloc, labels.len())?;
     for label in labels {
@@ -73,7 +75,8 @@ pub(crate) fn words_of(
 /// Writes the words of labels to the slots from `pos` on.
 pub(crate) fn copy(input: &Input, values: &mut Vec<Word>, pos: usize, labels: &[Label])
     requires { pos < 2 ^ 32 }
-    ensures { numbers values.new.items ≡ spec.copied (slots input.now) (numbers values.old.items) pos labels.now }
+    ensures { numbers values.new.items
+        ≡ spec.copied (slots input.now) (numbers values.old.items) pos labels.now }
 {
     for (k, label) in labels.iter().enumerate() {
         let x = read(input, values, *label);
@@ -98,7 +101,8 @@ pub(crate) fn enter(values: &mut Vec<Word>, from: usize, to: usize, args: &[Arg]
 /// Writes unsigned numbers, each modulo its type, to the slots from `pos` on.
 pub(crate) fn give(values: &mut Vec<Word>, pos: usize, types: &[IrType], unsigned: &[u64])
     requires { pos < 2 ^ 32 }
-    ensures { numbers values.new.items ≡ spec.given (numbers values.old.items) pos types.now unsigned.now }
+    ensures { numbers values.new.items
+        ≡ spec.given (numbers values.old.items) pos types.now unsigned.now }
 {
     let n = types.len().min(unsigned.len());
     for k in 0..n {

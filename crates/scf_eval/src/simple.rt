@@ -63,7 +63,9 @@ pub(crate) fn is_less(w: Width, a: u64, b: u64) -> bool
 /// What an operation without regions that is no call computes at the width of its result; `None`
 /// where it traps.
 pub(crate) fn work(input: &Input, values: &Vec<Word>, w: Width, kind: &Kind) -> Option<u64>
-    ensures { result ≡ spec.kind_worked (spec.read (slots input.now) (numbers values.now.items)) w (view_kind kind.now) }
+    ensures { result
+        ≡ spec.kind_worked (spec.read (slots input.now) (numbers values.now.items)) w
+        (view_kind kind.now) }
 {
     match kind {
         Kind::Const(v) => Some(*v),

@@ -41,7 +41,8 @@ fn run_region(
 ) -> Result<(), Halt>
     requires room { pos + labels_of (plain.rows_of region.now) < 2 ^ 32 }
     requires results { res < 2 ^ 32 }
-    ensures ends { Follows result input.now m.old m.new (region_steps input.now pos res region.now) }
+    ensures ends { Follows result input.now m.old m.new
+        (region_steps input.now pos res region.now) }
     ensures spends { m.old.spent ≤ m.new.spent }
 {
     run_ops(input, m, pos, rows_of(region))?;
@@ -61,7 +62,8 @@ fn run_kind(
 ) -> Result<usize, Halt>
     requires { pos + inner_labels (view_kind kind.now) < 2 ^ 32 }
     ensures moved { IfOk result (λ res. res ≡ pos + inner_labels (view_kind kind.now)) }
-    ensures ends { Follows result input.now m.old m.new (kind_steps input.now pos results.now kind.now) }
+    ensures ends { Follows result input.now m.old m.new
+        (kind_steps input.now pos results.now kind.now) }
     ensures spends { m.old.spent ≤ m.new.spent }
 {
     match kind {
