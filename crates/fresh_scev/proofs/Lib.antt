@@ -35,3 +35,7 @@ pub mod OneTurns
 pub mod SameValues
 pub mod OneResult
 pub mod OneFunction
+pub mod TypeBits
+pub mod FewerTypes
+pub mod FewerNames
+pub mod WantedItems

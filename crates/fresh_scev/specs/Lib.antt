@@ -16,6 +16,8 @@ pub mod LoopResults
 pub mod Heads
 pub mod Answers
 pub mod UnderWay
+pub mod Wanted
 pub mod Each
 pub mod Widths
 pub mod Entries
+pub mod Bits

@@ -59,7 +59,8 @@ pub(crate) fn for_head<'a>(counter: Label, parts: &'a ForParts) -> ForHead<'a>
 #[tactic(auto, using(mlir_ir::proofs::PartViews::while_view))]
 pub(crate) fn while_head<'a>(counter: Label, parts: &'a WhileParts) -> WhileHead<'a>
     ensures counter { result.counter ≡ counter }
-    ensures parts { while_of result (out-WhileParts parts.now).before (out-WhileParts parts.now).after
+    ensures parts { while_of result (out-WhileParts parts.now).before
+        (out-WhileParts parts.now).after
         ≡ view_while parts.now }
 {
     WhileHead {

@@ -4,6 +4,7 @@
 
 mod analysis;
 mod arguments;
+mod bits;
 mod carried;
 mod counting;
 mod counts;
@@ -32,7 +33,7 @@ mod variable;
 mod variables;
 mod walk;
 
-pub use analysis::analyse;
+pub use analysis::{analyse, analyse_items};
 pub use fact::{Comparison, Fact};
 pub use facts::Facts;
-pub use laws::facts_are_determined;
+pub use laws::{facts_are_determined, some_items_have_all_facts};

@@ -195,7 +195,8 @@ pub(crate) fn end_while(
     requires counter { IsCounter (facts_of t.old) h.now.counter.0 }
     requires passed { AreBelow passed.now (next_label t.old) }
     requires conditions { AreBelow t.old.conditions.items (next_label t.old) }
-    ensures { OnOk result (EndsWhile t.old.conditions.items h.now passed.now results.now t.old t.new) }
+    ensures { OnOk result
+        (EndsWhile t.old.conditions.items h.now passed.now results.now t.old t.new) }
 {
     let turns = while_turns(t, h.counter, h.cond)?;
     settle(t, at, turns);

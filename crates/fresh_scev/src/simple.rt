@@ -47,7 +47,8 @@ fn bin_rule(t: &Table, d: Defined, op: BinOp, a: Label, b: Label) -> Result<Expr
 fn cast_rule(t: &Table, d: Defined, op: CastOp, a: Label) -> Result<Expr, AllocError>
     requires known { AreKnown (facts_of t.now) }
     requires operand { a.0 < d.label.0 }
-    ensures rule { IfOk result (λ e. rules.IsCast op d.w d.label.0 ((facts_of t.now).expr a.0) (expression_of e)) }
+    ensures rule { IfOk result
+        (λ e. rules.IsCast op d.w d.label.0 ((facts_of t.now).expr a.0) (expression_of e)) }
     ensures before { IfOk result (λ e. IsBefore (d.label.0 + 1) (expression_of e)) }
 {
     let zero = zero();

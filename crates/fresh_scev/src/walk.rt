@@ -60,7 +60,8 @@ fn walk_then(t: &mut Table, results: &[IrType], c: Label, first: &Region) -> Res
     requires ready { CanWalk t.old (labels_of (rows_of first.now) + 0 + length results.now) }
     requires uses { DoesUseBelow (then_of c first.now) (next_label t.old) }
     ensures { OnOk result (Says t.old t.new (labels_of (rows_of first.now) + 0 + length results.now)
-        (plain.IsKind t.old.conditions.items (then_of c first.now) results.now (next_label t.old))) }
+        (plain.IsKind t.old.conditions.items (then_of c first.now) results.now
+        (next_label t.old))) }
 {
     let start = t.next();
     walk_first(t, c, first)?;
@@ -159,8 +160,10 @@ fn walk_for_rounds(t: &mut Table, h: &ForHead, body: &Region) -> Result<(), Allo
 fn walk_while(t: &mut Table, results: &[IrType], parts: &WhileParts) -> Result<(), AllocError>
     requires ready { CanWalk t.old (inner_labels (view_while parts.now) + length results.now) }
     requires uses { DoesUseBelow (view_while parts.now) (next_label t.old) }
-    ensures { OnOk result (Says t.old t.new (inner_labels (view_while parts.now) + length results.now)
-        (plain.IsKind t.old.conditions.items (view_while parts.now) results.now (next_label t.old))) }
+    ensures { OnOk result
+        (Says t.old t.new (inner_labels (view_while parts.now) + length results.now)
+        (plain.IsKind t.old.conditions.items (view_while parts.now) results.now
+        (next_label t.old))) }
 {
     let at = t.here.len();
     let h = while_head(t.next(), parts);
@@ -182,7 +185,8 @@ fn walk_regions(
         + (length h.now.params.now + labels_of (rows_of after.now))) }
     requires place { next_label t.old ≡ h.now.counter.0 + 1 + length h.now.args.now }
     requires uses { DoesUseBelow (while_of h.now before.now after.now) h.now.counter.0 }
-    ensures { OnOk result (WalksRegions t.old.conditions.items h.now before.now after.now t.old t.new) }
+    ensures { OnOk result
+        (WalksRegions t.old.conditions.items h.now before.now after.now t.old t.new) }
 {
     walk_ops(t, before.ops.as_slice())?;
     pass_on(t, h, before.ends.as_slice())?;

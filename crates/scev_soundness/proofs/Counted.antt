@@ -1,6 +1,6 @@
 -- Iterations stay below trip counts in parts of a run.
-use Rattle.std.proofs.Common.{◌≡◌, ℕ, ◌+◌, ◌<◌, ◌≤◌, ◌==◌, ◌∷◌, ◌++◌, nat_lt, inl, inr, List, [], length, drop, refl, sym, subst, arith, Bool, true, false, Option, Some, None, if◌then◌else◌}
-use Rattle.std.proofs.lemmas.Bool.{both_ways, cases_lt, lt-ltb}
+use Rattle.std.proofs.Common.{◌≡◌, ℕ, ◌+◌, ◌<◌, ◌≤◌, ◌==◌, ◌∷◌, ◌++◌, nat_le, nat_lt, inl, inr, List, [], length, drop, refl, sym, subst, arith, Bool, true, false, Option, Some, None, if◌then◌else◌}
+use Rattle.std.proofs.lemmas.Bool.{both_ways, cases_lt, le-leb, lt-ltb}
 use Rattle.arith_word.specs.declared.label.Label.{Label}
 use Rattle.mlir_ir.specs.Operations.{SimpleOp, Const, Bin, Cast, Cmp, Select, Call}
 use Rattle.mlir_ir.specs.Runs.{Number, Binding, Iteration, State, Starved, End, Done, Stopped, Report, Segment, numbers_of, numbers_at, definitions, defines, reports_then, run_then, stops, tick, answers, gives, computed, result_bits, run_simple}
@@ -56,21 +56,27 @@ next_counted (Unknown why) j k e lt = tt
 
 -- the iterations are below the trip counts for values with labels from `at` to `end`
 pub record Allowed (F : Facts) (split : ℕ → ℕ) (at end : ℕ) (around : List Iteration) : Type 0 where
-  pub reached : AreReached F around
+  pub reached : (label : ℕ) → at ≤ label → label ≤ end → AreReached F split label around
   pub counted : (label : ℕ) → at ≤ label → label < end → AreCounted F split label around
 
 module _ (F : Facts) (split : ℕ → ℕ) where
   pub allowed_part : (at end a e : ℕ) (around : List Iteration) → at ≤ a → e ≤ end → Allowed F split at end around
       → Allowed F split a e around
   allowed_part at end a e around lo hi h =
-      record { reached = h.reached; counted = λ l le lt. h.counted l (omega arith) (omega arith) }
+      record {
+        reached = λ l le lt. h.reached l (omega arith) (omega arith);
+        counted = λ l le lt. h.counted l (omega arith) (omega arith);
+      }
 
   -- one loop more, behind its test
   pub allowed_behind : (at end a e loop k : ℕ) (around : List Iteration) → at ≤ a → e ≤ end
       → IsCounted (F.turns loop) false k → Allowed F split at end around
       → Allowed F split a e (turn_of loop k ∷ around)
   allowed_behind at end a e loop k around lo hi below h = record {
-    reached = (below_weaker (F.turns loop) k below true, h.reached);
+    reached = λ l le lt. (
+      below_weaker (F.turns loop) k below (nat_le l (split loop)),
+      h.reached l (omega arith) (omega arith),
+    );
     counted = λ l le lt. (
       below_weaker (F.turns loop) k below (nat_lt l (split loop)),
       h.counted l (omega arith) (omega arith),
@@ -82,7 +88,10 @@ module _ (F : Facts) (split : ℕ → ℕ) where
       → IsCounted (F.turns loop) true k → Allowed F split at end around
       → Allowed F split a e (turn_of loop k ∷ around)
   allowed_front at end a e loop k around lo hi front below h = record {
-    reached = (below, h.reached);
+    reached = λ l le lt. (
+      subst (λ b. IsCounted (F.turns loop) b k) (sym (le-leb l (split loop) (omega arith))) below,
+      h.reached l (omega arith) (omega arith),
+    );
     counted = λ l le lt. (
       subst (λ b. IsCounted (F.turns loop) b k) (sym (lt-ltb l (split loop) (omega arith))) below,
       h.counted l (omega arith) (omega arith),

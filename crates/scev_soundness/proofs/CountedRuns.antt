@@ -24,7 +24,7 @@ use Rattle.fresh_scev.proofs.FittingLabels.{item_ends}
 use Rattle.fresh_scev.proofs.StandingFacts.{types_length}
 use Rattle.scev_soundness.specs.Agreement.{Agrees, After}
 use Rattle.scev_soundness.specs.Counted.{AllCounted, IsSplit, IsSplitIn, IsSplitOf}
-use Rattle.scev_soundness.specs.Holding.{HaveBits}
+use Rattle.fresh_scev.specs.Bits.{HaveBits}
 use Rattle.scev_soundness.proofs.Branches.{branch_lengths, true_in, agrees_guarded}
 use Rattle.scev_soundness.proofs.Counted.{Allowed, allowed_part, counted_then, counted_if, definitions_counted, simple_counted, numbers_length, any_end}
 use Rattle.scev_soundness.proofs.Fors.{for_counted}
@@ -63,7 +63,7 @@ module _ (F : Facts) (split : ℕ → ℕ) where
         let here = kind_sound kind T F conditions at fuel packs results env around s t.0 t.1 wide.0 wide.1 is.0 ag in
         counted_then F split (arrives at around env (run_kind kind results fuel at around env s))
         (λ w. After U F conditions at mid env w around) (run_ops rest fuel mid around) (
-          ok.reached,
+          ok.reached at (omega arith) (omega arith),
           kind_counted kind T conditions at fuel packs results env around s t.0 t.1 wide.0 wide.1 is.0 ag
               splits.0 (allowed_part F split at end at mid around (omega arith) (omega arith) ok),
         ) here.ends
@@ -136,7 +136,7 @@ module _ (F : Facts) (split : ℕ → ℕ) where
 
   -- outside all loops
   nothing_around : (at end : ℕ) → Allowed F split at end []
-  nothing_around at end = record { reached = tt; counted = λ l le lt. tt }
+  nothing_around at end = record { reached = λ l le lt. tt; counted = λ l le lt. tt }
 
   items_counted : (func k : ℕ) (items : List OpList) (T : Types) (fuel : ℕ) (env : List Binding) (s : State)
       → SizedItems items → TypedItems T func k items → EachItems HasBits AnyLoop func k items

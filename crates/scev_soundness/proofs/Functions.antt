@@ -21,7 +21,8 @@ use Rattle.fresh_scev.specs.Facts.{Facts, AreOwn, IsOps, IsKind, IsItems, IsFact
 use Rattle.fresh_scev.proofs.FittingLabels.{item_ends}
 use Rattle.fresh_scev.proofs.StandingFacts.{types_length}
 use Rattle.scev_soundness.specs.Agreement.{Agrees, After, IsSound}
-use Rattle.scev_soundness.specs.Holding.{AllHold, HaveBits}
+use Rattle.fresh_scev.specs.Bits.{HaveBits}
+use Rattle.scev_soundness.specs.Holding.{AllHold}
 use Rattle.scev_soundness.proofs.Branches.{if_sound, after_moved}
 use Rattle.scev_soundness.proofs.Fors.{for_sound}
 use Rattle.scev_soundness.proofs.Points.{keeps_both}

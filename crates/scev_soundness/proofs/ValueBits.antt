@@ -26,7 +26,7 @@ use Rattle.mlir_ir.specs.declared.types.ForParts.{ForParts'}
 use Rattle.mlir_ir.specs.declared.types.WhileParts.{WhileParts'}
 use Rattle.fresh_scev.specs.Each.{Each, EachOps, EachInside, EachItems}
 use Rattle.fresh_scev.specs.Facts.{items_in}
-use Rattle.scev_soundness.specs.Holding.{HaveBits}
+use Rattle.fresh_scev.specs.Bits.{HaveBits}
 
 -- the value has at least one bit
 abbrev IsWide : Value → Type 0

@@ -1,7 +1,7 @@
--- Iterations stay below trip counts: where a loop makes n iterations, no value is defined behind
--- its
--- test in iteration n or later, nor in front of its test in a later one.
-use Rattle.std.specs.Prelude.{ℕ, ◌≡◌, ◌+◌, ◌<◌, ◌≤◌, nat_lt, Bool, true, false, List, [], ◌∷◌, length}
+-- Iterations stay below trip counts: where a loop makes n iterations, no value is defined and no
+-- operation is reached behind its test in iteration n or later, nor in front of its test in a later
+-- one.
+use Rattle.std.specs.Prelude.{ℕ, ◌≡◌, ◌+◌, ◌<◌, ◌≤◌, nat_le, nat_lt, Bool, true, false, List, [], ◌∷◌, length}
 use Rattle.arith_word.specs.Labels.{label_at}
 use Rattle.mlir_ir.specs.Operations.{OpKind, Simple, If, For, While, OpList, nil, next, labels_of, inner_labels}
 use Rattle.mlir_ir.specs.Runs.{Iteration, Report, arrived, defined, left}
@@ -15,10 +15,13 @@ IsCounted (Count n) true k = k ≤ n
 IsCounted (Count n) false k = k < n
 IsCounted _ front k = Unit {0}
 
--- a run is in these iterations of the loops around
-abbrev pub AreReached : Facts → List Iteration → Type 0
-AreReached F [] = Unit {0}
-AreReached F (i ∷ around) = IsCounted (F.turns i.loop) true i.turn × AreReached F around
+-- an operation that begins with that label is reached in these iterations; by loop, it is behind
+-- the test where its label is behind the label `split`, which one that takes no label may have in
+-- front of the test
+abbrev pub AreReached : Facts → (ℕ → ℕ) → ℕ → List Iteration → Type 0
+AreReached F split at [] = Unit {0}
+AreReached F split at (i ∷ around) =
+    IsCounted (F.turns i.loop) (nat_le at (split i.loop)) i.turn × AreReached F split at around
 
 -- a value with that label is defined in these iterations; by loop, what is behind its test begins
 -- with the label `split`
@@ -30,7 +33,7 @@ AreCounted F split label (i ∷ around) =
 
 -- the iterations of a report are below the trip counts
 abbrev pub StaysCounted : Facts → (ℕ → ℕ) → Report → Type 0
-StaysCounted F split (arrived at env around) = AreReached F around
+StaysCounted F split (arrived at env around) = AreReached F split at around
 StaysCounted F split (defined label n env around) = AreCounted F split label around
 StaysCounted F split (left loop turns env around) = AreCounted F split loop around
 

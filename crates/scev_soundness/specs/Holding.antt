@@ -1,10 +1,7 @@
 -- What it means that facts hold of a run: each value has the number of its expression, and each
 -- loop makes as many iterations as its trip count says.
-use Rattle.std.specs.Prelude.{ℕ, ◌≡◌, ◌%◌, ◌^◌, ◌≤◌, ◌==◌, ◌⊎◌, List, [], ◌∷◌, All, if◌then◌else◌}
+use Rattle.std.specs.Prelude.{ℕ, ◌≡◌, ◌%◌, ◌^◌, ◌==◌, ◌⊎◌, List, [], ◌∷◌, if◌then◌else◌}
 use Rattle.mlir_ir.specs.Runs.{Number, Binding, Iteration, Report, arrived, defined, left, look}
-use Rattle.mlir_ir.specs.Values.{Value, func_values}
-use Rattle.mlir_ir.specs.Words.{bits_of}
-use Rattle.mlir_ir.specs.declared.types.Func.{Func}
 use Rattle.fresh_scev.specs.Expressions.{Expression}
 use Rattle.fresh_scev.specs.Facts.{Facts}
 use Rattle.scev_tree.specs.Value.{value, numbers}
@@ -54,7 +51,3 @@ Holds F (left loop turns env around) = IsTurned env around (F.turns loop) turns
 abbrev pub AllHold : Facts → List Report → Type 0
 AllHold F [] = Unit {0}
 AllHold F (r ∷ reports) = Holds F r × AllHold F reports
-
--- the type of each value of a function has at least one bit
-abbrev pub HaveBits : Func → Type 0
-HaveBits f = All (λ (v : Value). 1 ≤ bits_of v.ty) (func_values f)

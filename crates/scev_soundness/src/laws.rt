@@ -6,11 +6,12 @@ ghost use Rattle.arith_word.specs.declared.op.Pred.{Pred};
 ghost use Rattle.mlir_ir.specs.Check.{IsWellFormed};
 ghost use Rattle.mlir_ir.specs.Runs.{run_of};
 ghost use Rattle.mlir_ir.specs.declared.types.Func.{Func};
+ghost use Rattle.fresh_scev.specs.Bits.{HaveBits};
 ghost use Rattle.fresh_scev.specs.Expressions.{Expression, symbol};
 ghost use Rattle.fresh_scev.specs.Facts.{Facts, IsFacts, items_in};
 ghost use Rattle.fresh_scev.specs.Rules.{IsBin, IsCast, IsComparison, IsSelected};
 ghost use Rattle.scev_soundness.specs.Counted.{AllCounted, IsSplitOf};
-ghost use Rattle.scev_soundness.specs.Holding.{AllHold, HaveBits};
+ghost use Rattle.scev_soundness.specs.Holding.{AllHold};
 ghost use Rattle.scev_soundness.specs.Numbering.{IsNumbered};
 
 /// The rules of operations keep values: where the operands have the numbers of their expressions,
@@ -49,7 +50,8 @@ pub fn facts_hold()
 /// where a loop makes n iterations, values behind its test are defined in iterations below n, and
 /// those in front of it in no iteration beyond n. `split` is, for each loop, the label with which
 /// what is behind its test begins: the body of an `scf.for`, the after region of an `scf.while`.
-/// There is nothing to do: the contract is the law.
+/// Operations are reached likewise: those with a label behind `split` in iterations below n, all
+/// others in no iteration beyond n. There is nothing to do: the contract is the law.
 #[tactic(auto, using(crate::proofs::CountedRuns::run_counted, crate::proofs::Splits::has_split))]
 pub fn iterations_stay_below_counts()
     ensures splits { (f : Func) → IsWellFormed f

@@ -1,4 +1,4 @@
-use Rattle.std.proofs.Common.{◌≡◌, ℕ, ◌+◌, ◌-◌, ◌*◌, ◌^◌, ◌<◌, ◌++◌, [], ◌∷◌, List, length, take, true, false, ap, refl, sym, ◌∙◌, subst, arith, OnOk}
+use Rattle.std.proofs.Common.{◌≡◌, ◌+◌, ◌-◌, ◌*◌, ◌^◌, ◌<◌, ◌++◌, [], ◌∷◌, List, length, take, true, false, ap, refl, sym, ◌∙◌, subst, arith, OnOk}
 use Rattle.arith_word.specs.declared.label.Label.{Label}
 use Rattle.mlir_ir.specs.Operations.{nil, labels_of, inner_labels, count_of, inner_count}
 use Rattle.mlir_ir.specs.View.{view_kind, view_ops, view_for, view_while}
