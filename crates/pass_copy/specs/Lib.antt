@@ -1,0 +1,10 @@
+pub mod Renamed
+pub mod Renaming
+pub mod Fresh
+pub mod Meaning
+pub mod Replaced
+pub mod Arrivals
+pub mod ItemLabels
+pub mod Listed
+pub mod Copied
+pub mod Places
