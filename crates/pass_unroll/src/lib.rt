@@ -1,0 +1,19 @@
+//! Loops that are peeled and unrolled: the child of a function, that it means what its parent does, and
+//! the operations that stand for the loop.
+#![tactic(auto)]
+
+mod full;
+mod laws;
+mod moved;
+mod place;
+mod plan;
+mod source;
+mod turns;
+mod unrolled;
+
+pub use full::{full_map, push_full};
+pub use laws::{children_are_well_formed, children_mean_the_same};
+pub use place::Out;
+pub use plan::Plan;
+pub use source::{Source, source_at};
+pub use unrolled::{By, push_unrolled};
