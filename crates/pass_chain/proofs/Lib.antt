@@ -1,0 +1,13 @@
+pub mod Stands
+pub mod Positions
+pub mod BoundRuns
+pub mod LoopFacts
+pub mod NumberTurns
+pub mod FactPlans
+pub mod CountedBounds
+pub mod ExactTurns
+pub mod ReadPlans
+pub mod OneWord
+pub mod Sought
+pub mod SoughtItems
+pub mod FoundLoops

@@ -1,0 +1,4 @@
+pub mod Finding
+pub mod Parts
+pub mod Plans
+pub mod Records
