@@ -1,0 +1,11 @@
+pub mod Pieces
+pub mod Matching
+pub mod CanonicalPieces
+pub mod PiecePhrases
+pub mod CanonicalSyntaxes
+pub mod Flat
+pub mod LabelOrder
+pub mod ReadUses
+pub mod Readable
+pub mod Sound
+pub mod Widths

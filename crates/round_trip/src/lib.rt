@@ -1,0 +1,9 @@
+//! The canonical text of a module reads as the module again.
+#![tactic(auto)]
+
+mod laws;
+
+pub use laws::{
+    canonical_functions, canonical_phrase, canonical_readings, canonical_syntax, canonical_tokens,
+    canonical_tree, some_module,
+};
