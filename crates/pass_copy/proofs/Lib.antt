@@ -31,3 +31,5 @@ pub mod ChildOps
 pub mod ListedNames
 pub mod FreshNumbers
 pub mod Finding
+pub mod BuiltBehind
+pub mod LabelLists

@@ -8,3 +8,4 @@ pub mod ItemLabels
 pub mod Listed
 pub mod Copied
 pub mod Places
+pub mod Built

@@ -2,9 +2,11 @@
 //! for a loop, and what it means that a function keeps the meaning of another.
 #![tactic(auto)]
 
+mod building;
 mod copies;
 mod given;
 mod laws;
+mod moving;
 mod names;
 mod naming;
 mod places;
@@ -13,10 +15,12 @@ mod replacing;
 mod same;
 mod taken;
 
+pub use building::Out;
 pub use copies::{copy_arg, copy_args, copy_ops, copy_packs, copy_region, copy_types};
 pub use laws::{fresh_names_are_free, functions_mean_themselves};
+pub use moving::{labels_from, moved, moved_map, push_links};
 pub use names::Names;
-pub use places::{advance, found_for, labels_in};
+pub use places::{advance, found_for, is_loop, labels_in, pass_kind};
 pub use renaming::{Renaming, Span};
 pub use replacing::replace;
 pub use same::{region_of, same_arg, same_args, same_labels, same_packs};

@@ -23,7 +23,7 @@ pub fn advance(at: &mut u32, labels: usize) -> Result<(), AllocError>
 }
 
 /// Whether the operation is a loop.
-pub(crate) fn is_loop(kind: &Kind) -> bool
+pub fn is_loop(kind: &Kind) -> bool
     ensures { result ≡ spec.is_loop (view_kind kind.now) }
 {
     matches!(kind, Kind::For(_) | Kind::While(_))
@@ -50,7 +50,7 @@ pub(crate) fn pass_ops(at: &mut u32, ops: &[Op]) -> Result<(), AllocError>
 
 /// Goes past the labels inside an operation.
 #[cycle(pass)]
-pub(crate) fn pass_kind(at: &mut u32, kind: &Kind) -> Result<(), AllocError>
+pub fn pass_kind(at: &mut u32, kind: &Kind) -> Result<(), AllocError>
     ensures { OnOk result (at.new ≡ at.old + inner_labels (view_kind kind.now)) }
 {
     match kind {

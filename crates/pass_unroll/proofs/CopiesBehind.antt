@@ -11,10 +11,10 @@ use Rattle.pass_copy.specs.Renaming.{renamed}
 use Rattle.pass_copy.specs.declared.names.Names.{Names}
 use Rattle.pass_copy.specs.declared.renaming.Span.{Span}
 use Rattle.pass_copy.proofs.JoinedOps.{view_append}
-use Rattle.pass_unroll.specs.Built.{IsBehind, fresh_at}
-use Rattle.pass_unroll.specs.Copies.{ForLoop, label, constant, sum, copy_spans, copy_ends, copy, more_copies, more_ends}
-use Rattle.pass_unroll.specs.declared.place.Out.{Out}
-use Rattle.pass_unroll.proofs.BuiltBehind.{behind_then}
+use Rattle.pass_copy.specs.Built.{IsBehind, fresh_at, label, constant, sum}
+use Rattle.pass_unroll.specs.Copies.{ForLoop, copy_spans, copy_ends, copy, more_copies, more_ends}
+use Rattle.pass_copy.specs.declared.building.Out.{Out}
+use Rattle.pass_copy.proofs.BuiltBehind.{behind_then}
 use Rattle.pass_unroll.proofs.RenamedCounts.{copied_labels, copied_names}
 
 pub naming_anew : (names : Names) → names.kept ≡ false → naming names ≡ anew (fresh_by names)

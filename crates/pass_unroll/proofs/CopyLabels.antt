@@ -7,7 +7,8 @@ use Rattle.pass_copy.specs.Renaming.{span, renamed}
 use Rattle.pass_copy.specs.declared.renaming.Span.{Span}
 use Rattle.pass_copy.proofs.Ahead.{joined_labels}
 use Rattle.pass_copy.proofs.RenamedAlike.{rename_labels, relabels_length}
-use Rattle.pass_unroll.specs.Copies.{ForLoop, label, labels_from, copy_spans, copy_ends, copy, full_copies, full_ends}
+use Rattle.pass_unroll.specs.Copies.{ForLoop, copy_spans, copy_ends, copy, full_copies, full_ends}
+use Rattle.pass_copy.specs.Built.{label, labels_from}
 use Rattle.pass_unroll.proofs.SpanLabels.{pick, span_has, span_before, links_before, links_behind, links_has}
 
 pub labels_from_length : (start n : ℕ) → length (labels_from start n) ≡ n

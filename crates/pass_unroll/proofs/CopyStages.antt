@@ -12,7 +12,8 @@ use Rattle.pass_copy.specs.Renaming.{renamed}
 use Rattle.pass_copy.proofs.Bindings.{Scope, pair, linked, bound, All2, AllBelow, Below, below_more, all_below_more, look_same, look_other}
 use Rattle.pass_copy.proofs.RenamedAlike.{Covers, Moves, AlikeFrom, renamed_ops, all_covered, arg_types_length}
 use Rattle.pass_copy.proofs.RunEnds.{goes_on, stepped}
-use Rattle.pass_unroll.specs.Copies.{ForLoop, operation_of, label, constant, copy, copy_spans, copy_ends, full_copies, full_ends}
+use Rattle.pass_unroll.specs.Copies.{ForLoop, operation_of, copy, copy_spans, copy_ends, full_copies, full_ends}
+use Rattle.pass_copy.specs.Built.{label, constant}
 use Rattle.pass_unroll.proofs.CopiedTurns.{Copies, stop, more, Readies}
 use Rattle.pass_unroll.proofs.CopyLabels.{copy_below, copy_links, copy_inside, labels_copy, copy_ends_length}
 use Rattle.pass_unroll.proofs.CoveredScopes.{all_stand_below, below_linked, covers_linked, covers_same}

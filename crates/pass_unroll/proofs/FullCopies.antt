@@ -4,10 +4,10 @@ use Rattle.arith_word.specs.declared.label.Label.{Label}
 use Rattle.mlir_ir.specs.Operations.{OpList, nil, labels_of, joined}
 use Rattle.pass_copy.specs.Renamed.{anew, names_of}
 use Rattle.pass_copy.specs.Renaming.{renamed}
-use Rattle.pass_unroll.specs.Built.{IsBehind, fresh_at}
-use Rattle.pass_unroll.specs.Copies.{ForLoop, label, constant, copy_spans, copy_ends, copy, full_copies, full_ends}
-use Rattle.pass_unroll.specs.declared.place.Out.{Out}
-use Rattle.pass_unroll.proofs.BuiltBehind.{behind_then}
+use Rattle.pass_copy.specs.Built.{IsBehind, fresh_at, label, constant}
+use Rattle.pass_unroll.specs.Copies.{ForLoop, copy_spans, copy_ends, copy, full_copies, full_ends}
+use Rattle.pass_copy.specs.declared.building.Out.{Out}
+use Rattle.pass_copy.proofs.BuiltBehind.{behind_then}
 use Rattle.pass_unroll.proofs.RenamedCounts.{copied_labels, copied_names}
 
 pub one_full : (fresh : ℕ → List ℕ) (t : ℕ) (o : ForLoop) (step n m v v2 : ℕ) (out out1 out2 new : Out) (variable : Label) (args ends : List Label)

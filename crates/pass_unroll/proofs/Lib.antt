@@ -28,10 +28,8 @@ pub mod MoreStages
 pub mod UnrollWorks
 pub mod FoundLoops
 pub mod ChildMeanings
-pub mod BuiltBehind
 pub mod CopiesBehind
 pub mod FullCopies
-pub mod LabelLists
 pub mod LoopParts
 pub mod MainLoop
 pub mod RenamedCounts

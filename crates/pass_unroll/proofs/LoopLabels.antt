@@ -8,8 +8,9 @@ use Rattle.pass_copy.specs.Replaced.{op_labels, item_end}
 use Rattle.pass_copy.specs.declared.renaming.Span.{Span}
 use Rattle.pass_copy.proofs.Ahead.{joined_labels}
 use Rattle.pass_copy.proofs.RenamedAlike.{rename_labels}
-use Rattle.pass_unroll.specs.Copies.{ForLoop, operation_of, label, constant, copy, copy_ends, full_ends}
-use Rattle.pass_unroll.specs.Children.{moved, peel_spans, peeled, full_spans, unrolled_full, unroll_spans, unrolled, rest_count, main_alone, main_and_rest}
+use Rattle.pass_unroll.specs.Copies.{ForLoop, operation_of, copy, copy_ends, full_ends}
+use Rattle.pass_copy.specs.Built.{label, constant, moved}
+use Rattle.pass_unroll.specs.Children.{peel_spans, peeled, full_spans, unrolled_full, unroll_spans, unrolled, rest_count, main_alone, main_and_rest}
 use Rattle.pass_unroll.specs.declared.plan.Plan.{Plan}
 use Rattle.pass_unroll.proofs.CopyLabels.{labels_copy, full_ends_length}
 use Rattle.pass_unroll.proofs.ItemEnds.{below_end, same_end}

@@ -8,7 +8,8 @@ use Rattle.pass_copy.specs.Renamed.{keep, anew, relabels, rename_ops, names_of}
 use Rattle.pass_copy.specs.Renaming.{renamed}
 use Rattle.pass_copy.proofs.JoinedOps.{joined_labels, joined_names}
 use Rattle.pass_unroll.specs.Children.{in_body, main_first, main_body, main_ends, main_kind}
-use Rattle.pass_unroll.specs.Copies.{ForLoop, label, labels_from, copy_spans, copy_ends, copy, more_copies, more_ends}
+use Rattle.pass_unroll.specs.Copies.{ForLoop, copy_spans, copy_ends, copy, more_copies, more_ends}
+use Rattle.pass_copy.specs.Built.{label, labels_from}
 use Rattle.pass_unroll.specs.declared.plan.Plan.{Plan}
 use Rattle.pass_unroll.proofs.RenamedCounts.{copied_labels, copied_names}
 

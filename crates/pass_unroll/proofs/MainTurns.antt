@@ -11,7 +11,7 @@ use Rattle.pass_copy.proofs.Ahead.{Grows, Growing, grows_then, grows_ops, grows_
 use Rattle.pass_copy.proofs.Bindings.{Scope, bound, Same, Below, All2, AllBelow, linked, below_more, same_kept, look_same}
 use Rattle.pass_copy.proofs.AlikeOps.{AlikeOps}
 use Rattle.pass_copy.proofs.KeptLabels.{Kept, binds_kept}
-use Rattle.pass_unroll.specs.Copies.{label, labels_from}
+use Rattle.pass_copy.specs.Built.{label, labels_from}
 use Rattle.pass_unroll.proofs.CopiedTurns.{Copies, turn_body, copies_run}
 use Rattle.pass_unroll.proofs.FullTurns.{turns_over}
 

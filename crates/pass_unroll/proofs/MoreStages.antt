@@ -10,7 +10,8 @@ use Rattle.pass_copy.specs.Renamed.{names_of}
 use Rattle.pass_copy.proofs.Bindings.{Scope, bound, AllBelow, Below, all_below_more, look_same, look_other}
 use Rattle.pass_copy.proofs.RenamedAlike.{Covers}
 use Rattle.pass_copy.proofs.RunEnds.{goes_on, stepped}
-use Rattle.pass_unroll.specs.Copies.{ForLoop, operation_of, label, constant, sum, copy, copy_ends, more_copies, more_ends}
+use Rattle.pass_unroll.specs.Copies.{ForLoop, operation_of, copy, copy_ends, more_copies, more_ends}
+use Rattle.pass_copy.specs.Built.{label, constant, sum}
 use Rattle.pass_unroll.proofs.CopiedTurns.{Copies, stop, more, Readies}
 use Rattle.pass_unroll.proofs.CopyLabels.{labels_copy, copy_ends_length}
 use Rattle.pass_unroll.proofs.CopyStages.{copy_alike, copy_yields, copy_yields_below}

@@ -10,7 +10,8 @@ use Rattle.pass_copy.proofs.NamedRenamed.{AreFresh, Unused, Apart, OldRegions, f
 use Rattle.pass_copy.proofs.NamedReplaced.{KeepsNames}
 use Rattle.pass_copy.specs.Renaming.{renamed}
 use Rattle.pass_unroll.specs.Children.{peel_spans, peeled, unrolled_full}
-use Rattle.pass_unroll.specs.Copies.{ForLoop, operation_of, label, constant, copy, copy_ends, full_copies}
+use Rattle.pass_unroll.specs.Copies.{ForLoop, operation_of, copy, copy_ends, full_copies}
+use Rattle.pass_copy.specs.Built.{label, constant}
 use Rattle.pass_unroll.specs.declared.plan.Plan.{Plan}
 use Rattle.pass_copy.proofs.JoinedOps.{named_joined, names_after_joined}
 

@@ -10,7 +10,8 @@ use Rattle.pass_copy.specs.Renaming.{renamed}
 use Rattle.pass_copy.proofs.NamedRenamed.{AreFresh, Unused, Apart, OldPacks, OldRegions, unused_more, packs_anew, args_anew, ops_anew, unused_anew, called_anew, called_args_anew, apart_packs_anew, apart_packs, unused_args, unused_after, free_packs_kept, names_after_relabelled}
 use Rattle.pass_copy.proofs.NamedReplaced.{KeepsNames}
 use Rattle.pass_unroll.specs.Children.{main_first, main_body, main_kind, main_names, rest_count, main_alone, main_and_rest, unrolled}
-use Rattle.pass_unroll.specs.Copies.{ForLoop, operation_of, label, labels_from, copy, copy_ends, more_copies}
+use Rattle.pass_unroll.specs.Copies.{ForLoop, operation_of, copy, copy_ends, more_copies}
+use Rattle.pass_copy.specs.Built.{label, labels_from}
 use Rattle.pass_unroll.specs.declared.plan.Plan.{Plan}
 use Rattle.pass_unroll.proofs.NamedCopies.{Room, room, room_one, one, one_free, unused_one, loop_named}
 use Rattle.pass_unroll.proofs.TypedLoops.{pick, body_labels}

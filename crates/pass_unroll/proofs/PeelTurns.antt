@@ -14,7 +14,7 @@ use Rattle.pass_copy.proofs.Bindings.{Scope, bound, Same, Below, In, All2, AllBe
 use Rattle.pass_copy.proofs.AlikeOps.{Joined, Works, AlikeOps}
 use Rattle.pass_copy.proofs.KeptLabels.{Kept}
 use Rattle.pass_copy.proofs.LoopRuns.{joined_le}
-use Rattle.pass_unroll.specs.Copies.{gives_one}
+use Rattle.pass_copy.specs.Built.{gives_one}
 use Rattle.pass_unroll.proofs.CopiedTurns.{Copies, copies_run}
 use Rattle.pass_unroll.proofs.RestTurns.{rest_works}
 

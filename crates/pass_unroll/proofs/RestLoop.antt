@@ -9,7 +9,8 @@ use Rattle.pass_copy.specs.Copied.{HaveGiven, fresh_by, naming}
 use Rattle.pass_copy.specs.Renamed.{anew, rename_arg, rename_args}
 use Rattle.pass_copy.specs.declared.names.Names.{Names}
 use Rattle.pass_unroll.specs.Children.{rest_kind}
-use Rattle.pass_unroll.specs.Copies.{ForLoop, label, labels_from, copy, copy_ends}
+use Rattle.pass_unroll.specs.Copies.{ForLoop, copy, copy_ends}
+use Rattle.pass_copy.specs.Built.{label, labels_from}
 use Rattle.pass_unroll.specs.declared.plan.Plan.{Plan}
 use Rattle.pass_unroll.proofs.CopiesBehind.{naming_anew}
 

@@ -12,8 +12,9 @@ use Rattle.pass_copy.specs.declared.renaming.Span.{Span}
 use Rattle.pass_copy.proofs.CarriedTypes.{Carries, Below, below_known, with_keeps, after_keeps, carries_then, or_some, carries_back}
 use Rattle.pass_copy.proofs.TypedReplaced.{KeepsTypes}
 use Rattle.pass_copy.proofs.TypedChildren.{KeepsOthers}
-use Rattle.pass_unroll.specs.Children.{full_spans, unrolled_full, moved}
-use Rattle.pass_unroll.specs.Copies.{ForLoop, operation_of, label, copy, copy_ends, full_copies, full_ends}
+use Rattle.pass_unroll.specs.Children.{full_spans, unrolled_full}
+use Rattle.pass_copy.specs.Built.{moved, label}
+use Rattle.pass_unroll.specs.Copies.{ForLoop, operation_of, copy, copy_ends, full_copies, full_ends}
 use Rattle.pass_unroll.specs.declared.plan.Plan.{Plan}
 use Rattle.pass_unroll.proofs.TypedCopies.{Have, have_more, TypedFor, for_from, constant_op, one_is, below_one, span_in, span_below, span_past, links_below, links_past, linked, below_copy, Ready, copied_typed}
 use Rattle.pass_copy.proofs.RenamedOps.{relabels_length, rename_labels, same}

@@ -14,7 +14,8 @@ use Rattle.pass_copy.proofs.TypedRenamed.{packs_kept}
 use Rattle.pass_copy.proofs.TypedReplaced.{KeepsTypes}
 use Rattle.pass_copy.proofs.TypedChildren.{KeepsOthers}
 use Rattle.pass_unroll.specs.Children.{main_first, main_body, main_ends, main_kind, main_names, rest_kind, rest_count, main_count, main_alone, main_and_rest, unrolled, unroll_spans}
-use Rattle.pass_unroll.specs.Copies.{ForLoop, operation_of, label, labels_from, copy, copy_ends, more_copies}
+use Rattle.pass_unroll.specs.Copies.{ForLoop, operation_of, copy, copy_ends, more_copies}
+use Rattle.pass_copy.specs.Built.{label, labels_from}
 use Rattle.pass_unroll.specs.declared.plan.Plan.{Plan}
 use Rattle.pass_unroll.proofs.TypedCopies.{Have, have_more, carried_one, TypedFor, for_from, for_op, for_regions, constant_op, one_is, below_one, span_in, span_below, span_past, below_copy, Ready, copied_typed}
 use Rattle.pass_unroll.proofs.TypedUnroll.{next_typed, next_after, have_new, for_renamed, more_labels, more_typed, ready_inside}

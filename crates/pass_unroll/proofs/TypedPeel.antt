@@ -10,7 +10,8 @@ use Rattle.pass_copy.proofs.CarriedTypes.{Carries, Below, Moves, below_more, mov
 use Rattle.pass_copy.proofs.TypedReplaced.{KeepsTypes}
 use Rattle.pass_copy.proofs.TypedChildren.{KeepsOthers}
 use Rattle.pass_unroll.specs.Children.{peel_spans, peeled}
-use Rattle.pass_unroll.specs.Copies.{ForLoop, operation_of, label, constant, copy, copy_ends}
+use Rattle.pass_unroll.specs.Copies.{ForLoop, operation_of, copy, copy_ends}
+use Rattle.pass_copy.specs.Built.{label, constant}
 use Rattle.pass_unroll.specs.declared.plan.Plan.{Plan}
 use Rattle.pass_unroll.proofs.TypedCopies.{Have, have_more, carried_one, TypedFor, for_from, for_op, for_regions, constant_op, one_is, below_one, span_in, span_below, span_past, body_typed, below_copy, Ready, copied_typed}
 use Rattle.pass_copy.proofs.JoinedOps.{joined_labels, typed_joined, after_joined}

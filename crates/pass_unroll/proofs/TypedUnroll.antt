@@ -12,7 +12,8 @@ use Rattle.mlir_ir.specs.Rules.{arg_types}
 use Rattle.mlir_ir.specs.Typed.{Types, typed_from, with_types, types_after, fits, TypedOp, TypedOps, TypedRegions}
 use Rattle.pass_copy.specs.Renamed.{Naming, anew, rename_arg, rename_args, names_of}
 use Rattle.pass_copy.proofs.CarriedTypes.{Carries, Below, below_with, with_keeps, after_keeps, carries_then, scope_inside, inside_below, inside_keeps}
-use Rattle.pass_unroll.specs.Copies.{ForLoop, label, labels_from, copy, copy_ends, more_copies, more_ends}
+use Rattle.pass_unroll.specs.Copies.{ForLoop, copy, copy_ends, more_copies, more_ends}
+use Rattle.pass_copy.specs.Built.{label, labels_from}
 use Rattle.pass_unroll.proofs.TypedCopies.{fits_it, Have, have_more, carried_one, TypedFor, constant_op, one_is, below_one, below_copy, Ready, copied_typed}
 use Rattle.pass_copy.proofs.RenamedOps.{rename_args_length, types_args, arg_types_length, rename_labels, same}
 use Rattle.pass_copy.proofs.JoinedOps.{joined_labels, typed_joined, after_joined}

@@ -15,7 +15,7 @@ use Rattle.pass_copy.proofs.Bindings.{Scope, bound, Same, Below, In, All2, pairs
 use Rattle.pass_copy.proofs.AlikeOps.{Joined, Works, AlikeOps}
 use Rattle.pass_copy.proofs.KeptLabels.{Kept, binds_kept}
 use Rattle.pass_copy.proofs.LoopRuns.{joined_le}
-use Rattle.pass_unroll.specs.Copies.{gives_one, label, labels_from}
+use Rattle.pass_copy.specs.Built.{gives_one, label, labels_from}
 use Rattle.pass_unroll.proofs.FullTurns.{turns_over}
 use Rattle.pass_unroll.proofs.MainTurns.{Main, main_run, numbers_these}
 use Rattle.pass_unroll.proofs.PeelTurns.{Header}

@@ -20,7 +20,8 @@ use Rattle.pass_copy.proofs.RenamedAlike.{Covers, Moves, AlikeFrom, all_covered,
 use Rattle.pass_copy.proofs.ReplacedAlike.{WorksFrom, if_true, if_false}
 use Rattle.pass_copy.proofs.RunEnds.{goes_on, stepped}
 use Rattle.pass_unroll.specs.Children.{rest_count, inner_args, in_body, main_first, main_ends, main_kind, main_names, main_alone, main_and_rest, unrolled, unroll_spans}
-use Rattle.pass_unroll.specs.Copies.{ForLoop, operation_of, label, labels_from, constant, copy, copy_spans, copy_ends, more_copies}
+use Rattle.pass_unroll.specs.Copies.{ForLoop, operation_of, copy, copy_spans, copy_ends, more_copies}
+use Rattle.pass_copy.specs.Built.{label, labels_from, constant}
 use Rattle.pass_unroll.specs.Planned.{Turns, HasHeader}
 use Rattle.pass_unroll.specs.declared.plan.Plan.{Plan}
 use Rattle.pass_unroll.proofs.CopiedTurns.{Copies}

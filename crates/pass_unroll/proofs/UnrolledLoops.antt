@@ -4,7 +4,8 @@ use Rattle.mlir_ir.specs.Operations.{OpKind, nil, next, labels_of, inner_labels}
 use Rattle.pass_copy.specs.Renamed.{anew, rename_packs}
 use Rattle.pass_copy.specs.Renaming.{renamed}
 use Rattle.pass_unroll.specs.Children.{main_kind, main_body, main_names, main_alone, main_and_rest, rest_kind, rest_count, inner_args, in_body, unrolled}
-use Rattle.pass_unroll.specs.Copies.{ForLoop, label, labels_from, copy_spans}
+use Rattle.pass_unroll.specs.Copies.{ForLoop, copy_spans}
+use Rattle.pass_copy.specs.Built.{label, labels_from}
 use Rattle.pass_unroll.specs.Steps.{main_loops}
 use Rattle.pass_unroll.specs.declared.plan.Plan.{Plan}
 use Rattle.pass_unroll.proofs.RenamedCounts.{args_length, copied_labels}

@@ -8,7 +8,8 @@ use Rattle.mlir_ir.specs.declared.types.Pack.{Pack}
 use Rattle.mlir_ir.specs.Operations.{Simple, Const, Bin, Call, For, OpList, nil, next}
 use Rattle.pass_copy.specs.Renaming.{renamed}
 use Rattle.pass_unroll.specs.Children.{peeled, unrolled_full, unrolled, unroll_spans}
-use Rattle.pass_unroll.specs.Copies.{ForLoop, label}
+use Rattle.pass_unroll.specs.Copies.{ForLoop}
+use Rattle.pass_copy.specs.Built.{label}
 use Rattle.pass_unroll.specs.declared.plan.Plan.{Plan}
 
 -- names are single bytes: fresh ones are their numbers

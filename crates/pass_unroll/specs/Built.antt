@@ -1,14 +1,14 @@
 -- Operations that are built one behind another, from a loop that a program reads.
 use Rattle.std.specs.Prelude.{ℕ, ◌≡◌, ◌+◌, List}
 use Rattle.mlir_ir.specs.declared.types.ForParts.{out-ForParts}
-use Rattle.mlir_ir.specs.Operations.{OpKind, OpList, labels_of, inner_labels, joined}
+use Rattle.mlir_ir.specs.Operations.{OpKind, labels_of, inner_labels, joined}
 use Rattle.mlir_ir.specs.View.{view_ops, rows_of, ends_of}
-use Rattle.pass_copy.specs.Copied.{HaveGiven, fresh_by}
-use Rattle.pass_copy.specs.Renamed.{names_of, keep, rename_ops}
+use Rattle.pass_copy.specs.Copied.{HaveGiven}
+use Rattle.pass_copy.specs.Renamed.{keep, rename_ops}
 use Rattle.pass_copy.specs.Renaming.{renamed}
 use Rattle.pass_copy.specs.declared.renaming.Span.{Span}
 use Rattle.pass_unroll.specs.Copies.{ForLoop}
-use Rattle.pass_unroll.specs.declared.place.Out.{Out}
+use Rattle.pass_copy.specs.declared.building.Out.{Out}
 use Rattle.pass_unroll.specs.declared.source.Source.{Source}
 
 abbrev pub loop_of : Source → ForLoop
@@ -26,16 +26,6 @@ loop_of source =
       body = rows_of parts.body;
       ends = ends_of parts.body;
     }
-
--- the fresh names
-abbrev pub fresh_at : Out → ℕ → List ℕ
-fresh_at out = fresh_by out.fresh
-
--- these operations more were built
-pub record IsBehind (old : Out) (more : OpList) (new : Out) : Type 0 where
-  pub ops : view_ops new.ops.items ≡ joined (view_ops old.ops.items) more
-  pub at : new.at ≡ old.at + labels_of more
-  pub names : HaveGiven old.fresh (names_of more) new.fresh
 
 -- the body of a loop more was built, under these labels and with its names
 pub record IsFirst (old : Out) (o : ForLoop) (spans : List Span) (new : Out) : Type 0 where

@@ -6,15 +6,12 @@ use Rattle.mlir_ir.specs.Reads.{plain_func}
 use Rattle.mlir_ir.specs.declared.types.Func.{Func}
 use Rattle.pass_copy.specs.Fresh.{fresh_names}
 use Rattle.pass_copy.specs.Renamed.{relabels, keep, anew, rename_arg, rename_args, rename_packs, rename_ops, names_of}
-use Rattle.pass_copy.specs.Renaming.{span, links, renamed}
-use Rattle.pass_copy.specs.Replaced.{item_end, StandsAt, replaced_func}
+use Rattle.pass_copy.specs.Renaming.{links, renamed}
+use Rattle.pass_copy.specs.Replaced.{StandsAt, replaced_func}
 use Rattle.pass_copy.specs.declared.renaming.Span.{Span}
-use Rattle.pass_unroll.specs.Copies.{ForLoop, operation_of, label, labels_from, constant, copy_spans, copy_ends, copy, full_copies, full_ends, more_copies, more_ends}
+use Rattle.pass_unroll.specs.Copies.{ForLoop, operation_of, copy_spans, copy_ends, copy, full_copies, full_ends, more_copies, more_ends}
+use Rattle.pass_copy.specs.Built.{label, labels_from, constant, moved}
 use Rattle.pass_unroll.specs.declared.plan.Plan.{Plan}
-
--- the labels of an item from one on move to another
-abbrev pub moved : ℕ → ℕ → Span
-moved start to = span start (item_end start - start) to
 
 module _ (fresh : ℕ → List ℕ) (t : ℕ) (plan : Plan) (o : ForLoop) where
   -- ---- peel: a copy of the body for the lower bound, and the loop from the second value of its variable

@@ -1,15 +1,14 @@
 -- Copies of the body of an `scf.for`, with other values for its variable and its arguments.
-use Rattle.std.specs.Prelude.{ℕ, zero, suc, ◌+◌, ◌*◌, ◌%◌, ◌^◌, false, List, [], ◌∷◌, ◌++◌, length}
+use Rattle.std.specs.Prelude.{ℕ, zero, suc, ◌+◌, ◌*◌, List, [], ◌∷◌, ◌++◌, length}
 use Rattle.arith_word.specs.declared.label.Label.{Label}
-use Rattle.arith_word.specs.declared.op.BinOp.TheVariants.{Addi}
 use Rattle.mlir_ir.specs.declared.types.Arg.{Arg}
 use Rattle.mlir_ir.specs.declared.types.IrType.{IrType}
 use Rattle.mlir_ir.specs.declared.types.Pack.{Pack}
-use Rattle.mlir_ir.specs.Operations.{Simple, Const, Bin, For, OpKind, OpList, nil, next, labels_of, joined}
-use Rattle.mlir_ir.specs.Words.{bits_of}
+use Rattle.mlir_ir.specs.Operations.{For, OpList, nil, labels_of, joined}
 use Rattle.pass_copy.specs.Renamed.{relabels, anew, rename_ops, names_of}
 use Rattle.pass_copy.specs.Renaming.{span, links, renamed}
 use Rattle.pass_copy.specs.Replaced.{Operation}
+use Rattle.pass_copy.specs.Built.{label, constant, sum}
 use Rattle.pass_copy.specs.declared.renaming.Span.{Span}
 
 -- an `scf.for` with its results
@@ -31,25 +30,6 @@ operation_of o = record {
   results = o.results;
   kind = For o.lower o.upper o.step o.iv o.args o.inits o.body o.ends;
 }
-
-abbrev pub label : ℕ → Label
-label l = record { 0 = l }
-
--- so many labels from one on
-abbrev pub labels_from : ℕ → ℕ → List Label
-labels_from start zero = []
-labels_from start (suc n) = label start ∷ labels_from (start + 1) n
-
--- an operation with one result, and others behind it
-abbrev pub gives_one : List ℕ → IrType → OpKind → OpList → OpList
-gives_one name ty kind rest = next (record { name = name; count = 1 } ∷ []) (ty ∷ []) kind rest
-
--- the constant v, taken modulo its type
-abbrev pub constant : List ℕ → IrType → ℕ → OpList → OpList
-constant name ty v rest = gives_one name ty (Simple (Const (v % 2 ^ bits_of ty))) rest
-
-abbrev pub sum : List ℕ → IrType → Label → Label → OpList → OpList
-sum name ty a b rest = gives_one name ty (Simple (Bin Addi (record { nsw = false; nuw = false }) a b)) rest
 
 module _ (fresh : ℕ → List ℕ) (t : ℕ) (o : ForLoop) where
   -- the labels of the copy of the body whose operations begin with label `at`, for these values of the variable and the arguments

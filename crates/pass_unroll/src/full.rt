@@ -1,17 +1,16 @@
 ghost use Rattle.std.specs.Prelude.{◌≡◌, ◌+◌, ◌*◌, ◌<◌, ◌^◌, ◌≤◌, ◌++◌, ◌∷◌, [], ℕ, false, List, IfOk, OnOk};
 ghost use Rattle.pass_copy.specs.Renaming.{links};
-ghost use Rattle.pass_unroll.specs.Built.{IsBehind, fresh_at, loop_of};
+ghost use Rattle.pass_unroll.specs.Built.{loop_of};
+ghost use Rattle.pass_copy.specs.Built.{IsBehind, fresh_at};
+ghost use Rattle.pass_copy.specs.Built as built;
 ghost use Rattle.pass_unroll.specs.Copies as spec;
-ghost use Rattle.pass_unroll.specs.Children.{moved};
 ghost use Rattle.pass_unroll.specs.Limits.{full_limit};
 
-use crate::moved::moved;
-use crate::place::Out;
 use crate::plan::Plan;
 use crate::source::Source;
-use crate::turns::push_links;
+use crate::turns::push_copy;
 use arith_word::{Label, List};
-use pass_copy::{Renaming, same_labels};
+use pass_copy::{Out, Renaming, moved, push_links, same_labels};
 use std::alloc::{AllocError, Global};
 
 /// Adds a constant and a copy for each iteration. Returns what the last copy yields.
@@ -34,7 +33,7 @@ pub fn push_full(
     let mut v = u128::from(plan.lower);
     for _turn in 0..plan.count {
         let variable = out.constant(alloc, source.parts.iv.ty, v)?;
-        args = out.copy(alloc, source, variable, args.as_slice())?;
+        args = push_copy(alloc, out, source, variable, args.as_slice())?;
         v += u128::from(plan.step);
     }
     Ok(args)
@@ -48,7 +47,7 @@ pub fn full_map(
     at: u32,
 ) -> Result<Renaming, AllocError>
     ensures { IfOk result (λ map. map.spans.items
-        ≡ links source.now.results_at ends.now ++ moved source.now.end at ∷ []) }
+        ≡ links source.now.results_at ends.now ++ built.moved source.now.end at ∷ []) }
 {
     let mut spans = Vec::new(alloc);
     push_links(&mut spans, source.results_at, ends)?;

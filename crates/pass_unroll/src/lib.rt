@@ -4,8 +4,6 @@
 
 mod full;
 mod laws;
-mod moved;
-mod place;
 mod plan;
 mod source;
 mod turns;
@@ -13,7 +11,6 @@ mod unrolled;
 
 pub use full::{full_map, push_full};
 pub use laws::{children_are_well_formed, children_mean_the_same};
-pub use place::Out;
 pub use plan::Plan;
 pub use source::{Source, source_at};
 pub use unrolled::{By, push_unrolled};

@@ -4,23 +4,23 @@ ghost use Rattle.mlir_ir.specs.View.{view_for, view_kind, view_ops};
 ghost use Rattle.pass_copy.specs.Copied.{HaveGiven};
 ghost use Rattle.pass_copy.specs.Renamed.{anew, names_of, relabels, rename_packs};
 ghost use Rattle.pass_copy.specs.Renaming.{renamed};
-ghost use Rattle.pass_unroll.specs.Built.{IsBehind, IsFirst, IsPastLoop, fresh_at, loop_of};
+ghost use Rattle.pass_unroll.specs.Built.{IsFirst, IsPastLoop, loop_of};
+ghost use Rattle.pass_copy.specs.Built.{IsBehind, fresh_at};
 ghost use Rattle.pass_unroll.specs.Steps.{main_loops};
 ghost use Rattle.pass_unroll.specs.declared.plan.Plan.{Plan};
 ghost use Rattle.pass_unroll.specs.Children as spec;
 ghost use Rattle.pass_unroll.specs.Limits.{factor_limit};
 ghost use Rattle.pass_unroll.specs.Copies as copies;
+ghost use Rattle.pass_copy.specs.Built as built;
 
-use crate::moved::moved_map;
-use crate::place::Out;
 use crate::plan::Plan;
 use crate::source::Source;
-use crate::turns::{copy_map, labels_from};
+use crate::turns::{copy_map, push_copy};
 use arith_word::{Label, List};
 use mlir_ir::{ForParts, Kind, Op, Pack};
 use pass_copy::{
-    Names, Renaming, advance, copy_arg, copy_args, copy_ops, copy_packs, copy_types, region_of,
-    same_arg, same_args, same_labels, same_packs,
+    Names, Out, Renaming, advance, copy_arg, copy_args, copy_ops, copy_packs, copy_types,
+    labels_from, moved_map, region_of, same_arg, same_args, same_labels, same_packs,
 };
 use std::alloc::{AllocError, Global};
 use std::mem;
@@ -38,7 +38,7 @@ pub struct By<'a> {
 /// Returns the labels of the arguments.
 fn enter(alloc: Global, at: &mut u32, source: &Source) -> Result<List<Label>, AllocError>
     ensures args { IfOk result
-        (λ args. args ≡ copies.labels_from (at.old + 2) (length (loop_of source.now).args)) }
+        (λ args. args ≡ built.labels_from (at.old + 2) (length (loop_of source.now).args)) }
     ensures at { OnOk result (at.new ≡ at.old + 2 + length (loop_of source.now).args) }
 {
     let count = source.parts.args.as_slice().len();
@@ -102,7 +102,7 @@ fn push_more(
         let v = u128::from(j) * u128::from(by.plan.step);
         let steps = out.constant(alloc, source.parts.iv.ty, v)?;
         let value = out.sum(alloc, source.parts.iv.ty, variable, steps)?;
-        args = out.copy(alloc, source, value, args.as_slice())?;
+        args = push_copy(alloc, out, source, value, args.as_slice())?;
     }
     Ok(args)
 }
@@ -168,7 +168,7 @@ fn rest_parts(
     let args = copy_args(alloc, parts.args.as_slice(), &mut out.fresh)?;
     let values = enter(alloc, &mut out.at, source)?;
     let outer = mem::replace(&mut out.ops, Vec::new(alloc));
-    let ends = out.copy(alloc, source, Label(variable), values.as_slice())?;
+    let ends = push_copy(alloc, out, source, Label(variable), values.as_slice())?;
     let body = mem::replace(&mut out.ops, outer);
     Ok(ForParts {
         lower: source.start,
@@ -190,7 +190,7 @@ fn push_loop(
     parts: ForParts,
 ) -> Result<List<Label>, AllocError>
     ensures labels { IfOk result
-        (λ labels. labels ≡ copies.labels_from out.old.at (length source.now.op.now.results)) }
+        (λ labels. labels ≡ built.labels_from out.old.at (length source.now.op.now.results)) }
     ensures ops { OnOk result (view_ops out.new.ops.items
         ≡ joined (view_ops out.old.ops.items)
         (next packs source.now.op.now.results (view_for parts) nil)) }
@@ -213,10 +213,10 @@ fn push_loop(
 fn push_header(alloc: Global, out: &mut Out, source: &Source, by: &By) -> Result<(), AllocError>
     requires anew { out.old.fresh.kept ≡ false }
     ensures { OnOk result (IsBehind out.old
-        (copies.constant (fresh_at out.old out.old.fresh.given) (loop_of source.now).iv.ty
+        (built.constant (fresh_at out.old out.old.fresh.given) (loop_of source.now).iv.ty
         (by.now.plan.now.lower
         + by.now.plan.now.count / by.now.factor * by.now.factor * by.now.plan.now.step)
-        (copies.constant (fresh_at out.old (out.old.fresh.given + 1)) (loop_of source.now).iv.ty
+        (built.constant (fresh_at out.old (out.old.fresh.given + 1)) (loop_of source.now).iv.ty
         (by.now.factor * by.now.plan.now.step) nil)) out.new) }
 {
     let factor = u64::from(by.factor);
@@ -266,7 +266,7 @@ fn push_both(
         (spec.rest_kind (fresh_at out.old) source.now.start.0 plan (loop_of source.now) factor
         (out.old.fresh.given + length source.now.op.now.packs)
         (out.old.at + length source.now.op.now.results)
-        (copies.labels_from out.old.at (length source.now.op.now.results))) nil))) }
+        (built.labels_from out.old.at (length source.now.op.now.results))) nil))) }
 {
     let packs = source.op.packs.as_slice();
     let names = copy_packs(alloc, packs, &mut out.fresh)?;

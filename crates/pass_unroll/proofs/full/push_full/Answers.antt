@@ -1,8 +1,9 @@
 use Rattle.std.proofs.Common.{◌≡◌, ◌-◌, ◌+◌, ℕ, List, suc, subst, refl, arith, sym, ap, ◌∙◌}
 use Rattle.arith_word.specs.declared.label.Label.{Label}
-use Rattle.pass_unroll.specs.Built.{IsBehind, fresh_at, loop_of}
+use Rattle.pass_unroll.specs.Built.{loop_of}
+use Rattle.pass_copy.specs.Built.{IsBehind, fresh_at}
 use Rattle.pass_unroll.specs.Copies.{copy, copy_ends}
-use Rattle.pass_unroll.proofs.BuiltBehind.{behind_none}
+use Rattle.pass_copy.proofs.BuiltBehind.{behind_none}
 use Rattle.pass_unroll.proofs.CopiesBehind.{copied_at}
 use Rattle.pass_unroll.proofs.FullCopies.{one_full, full_left}
 use Rattle.pass_unroll.proofs.full.push_full.Goals as goal

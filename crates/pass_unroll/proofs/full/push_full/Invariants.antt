@@ -1,7 +1,8 @@
 use Rattle.std.proofs.Common.{◌≡◌, ℕ, ◌+◌, ◌*◌, ◌^◌, ◌-◌, ◌≤◌, List, false}
-use Rattle.pass_unroll.specs.Built.{IsBehind, fresh_at, loop_of}
+use Rattle.pass_unroll.specs.Built.{loop_of}
+use Rattle.pass_copy.specs.Built.{IsBehind, fresh_at}
 use Rattle.pass_unroll.specs.Copies.{full_copies, full_ends}
-use Rattle.pass_unroll.specs.declared.place.Out.{Out}
+use Rattle.pass_copy.specs.declared.building.Out.{Out}
 use Rattle.pass_unroll.proofs.full.push_full.Given as goal
 
 abbrev pub invariant-loop-turn : goal.invariant-loop-turn

@@ -1,7 +1,8 @@
 use Rattle.std.proofs.Common.{◌≡◌, ◌-◌, [], arith, ◌∙◌}
 use Rattle.mlir_ir.specs.Operations.{For}
 use Rattle.mlir_ir.specs.View.{view_ops, rows_of, ends_of}
-use Rattle.pass_unroll.specs.Built.{fresh_at, loop_of}
+use Rattle.pass_unroll.specs.Built.{loop_of}
+use Rattle.pass_copy.specs.Built.{fresh_at}
 use Rattle.pass_unroll.specs.Children.{main_body, main_ends}
 use Rattle.pass_unroll.proofs.LoopParts.{for_made}
 use Rattle.pass_unroll.proofs.MainLoop.{body_made, ends_made, at_made, more_names}

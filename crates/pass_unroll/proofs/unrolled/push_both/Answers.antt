@@ -4,9 +4,9 @@ use Rattle.mlir_ir.specs.View.{view_for, view_ops}
 use Rattle.pass_copy.specs.Copied.{fresh_by}
 use Rattle.pass_copy.specs.Renamed.{anew, rename_packs}
 use Rattle.pass_copy.proofs.JoinedOps.{joined_assoc}
-use Rattle.pass_unroll.specs.Built.{fresh_at, loop_of}
+use Rattle.pass_unroll.specs.Built.{loop_of}
+use Rattle.pass_copy.specs.Built.{fresh_at, labels_from}
 use Rattle.pass_unroll.specs.Children.{rest_kind}
-use Rattle.pass_unroll.specs.Copies.{labels_from}
 use Rattle.pass_unroll.proofs.CopiesBehind.{naming_anew}
 use Rattle.pass_unroll.proofs.unrolled.push_both.Goals as goal
 

@@ -6,7 +6,7 @@ use Rattle.mlir_ir.proofs.PartViews.{region_rows, region_ends}
 use Rattle.pass_copy.specs.Renamed.{relabels}
 use Rattle.pass_copy.specs.Renaming.{renamed}
 use Rattle.pass_copy.proofs.JoinedOps.{view_append}
-use Rattle.pass_unroll.specs.Built.{fresh_at}
+use Rattle.pass_copy.specs.Built.{fresh_at}
 use Rattle.pass_unroll.proofs.CopiesBehind.{kept_ops}
 use Rattle.pass_unroll.proofs.unrolled.push_first.Goals as goal
 

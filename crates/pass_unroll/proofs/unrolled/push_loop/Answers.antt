@@ -1,6 +1,6 @@
 use Rattle.std.proofs.Common.{◌∙◌, ap, refl}
 use Rattle.mlir_ir.specs.View.{view_for, view_ops}
-use Rattle.pass_unroll.proofs.BuiltBehind.{view_pushed}
+use Rattle.pass_copy.proofs.BuiltBehind.{view_pushed}
 use Rattle.pass_unroll.proofs.unrolled.push_loop.Goals as goal
 
 pub returns-clause-ops : goal.returns-clause-ops

@@ -2,7 +2,8 @@ use Rattle.std.proofs.Common.{◌%◌, ap, ◌∙◌}
 use Rattle.std.proofs.lemmas.Bool.{ne_eqb}
 use Rattle.mlir_ir.specs.Operations.{joined}
 use Rattle.mlir_ir.specs.View.{view_for, view_ops}
-use Rattle.pass_unroll.specs.Built.{fresh_at, loop_of}
+use Rattle.pass_unroll.specs.Built.{loop_of}
+use Rattle.pass_copy.specs.Built.{fresh_at}
 use Rattle.pass_unroll.proofs.UnrolledLoops.{both_at, both_ops}
 use Rattle.pass_unroll.proofs.unrolled.push_loops.Goals as goal
 

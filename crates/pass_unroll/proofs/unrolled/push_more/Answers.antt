@@ -1,9 +1,10 @@
 use Rattle.std.proofs.Common.{◌≡◌, ◌-◌, ◌+◌, ◌*◌, ℕ, List, subst, suc, refl, arith, ap, ◌∙◌}
 use Rattle.arith_word.specs.declared.label.Label.{Label}
 use Rattle.mlir_ir.specs.Operations.{nil}
-use Rattle.pass_unroll.specs.Built.{IsBehind, fresh_at, loop_of}
-use Rattle.pass_unroll.specs.Copies.{constant, copy, copy_ends}
-use Rattle.pass_unroll.proofs.BuiltBehind.{behind_none}
+use Rattle.pass_unroll.specs.Built.{loop_of}
+use Rattle.pass_copy.specs.Built.{IsBehind, fresh_at, constant}
+use Rattle.pass_unroll.specs.Copies.{copy, copy_ends}
+use Rattle.pass_copy.proofs.BuiltBehind.{behind_none}
 use Rattle.pass_unroll.proofs.CopiesBehind.{one_more, more_given, copied_at}
 use Rattle.pass_unroll.proofs.unrolled.push_more.Goals as goal
 

@@ -1,7 +1,8 @@
 use Rattle.std.proofs.Common.{◌≡◌, ℕ, ◌-◌, List, false}
-use Rattle.pass_unroll.specs.Built.{IsBehind, fresh_at, loop_of}
+use Rattle.pass_unroll.specs.Built.{loop_of}
+use Rattle.pass_copy.specs.Built.{IsBehind, fresh_at}
 use Rattle.pass_unroll.specs.Copies.{more_copies, more_ends}
-use Rattle.pass_unroll.specs.declared.place.Out.{Out}
+use Rattle.pass_copy.specs.declared.building.Out.{Out}
 use Rattle.pass_unroll.proofs.unrolled.push_more.Given as goal
 
 abbrev pub invariant-loop-j : goal.invariant-loop-j

@@ -2,9 +2,9 @@ use Rattle.std.proofs.Common.{◌≡◌, ◌+◌, ◌*◌, ◌/◌, ◌-◌, ◌
 use Rattle.mlir_ir.specs.Operations.{labels_of, joined, nil}
 use Rattle.mlir_ir.specs.View.{view_ops}
 use Rattle.pass_copy.proofs.JoinedOps.{joined_assoc}
-use Rattle.pass_unroll.specs.Built.{fresh_at, loop_of}
-use Rattle.pass_unroll.specs.Children.{moved, unrolled}
-use Rattle.pass_unroll.specs.Copies.{constant}
+use Rattle.pass_unroll.specs.Built.{loop_of}
+use Rattle.pass_copy.specs.Built.{fresh_at, moved, constant}
+use Rattle.pass_unroll.specs.Children.{unrolled}
 use Rattle.pass_unroll.specs.Steps.{main_loops}
 use Rattle.pass_unroll.proofs.unrolled.push_unrolled.Goals as goal
 

@@ -1,6 +1,6 @@
 use Rattle.std.proofs.Common.{◌-◌, arith}
-use Rattle.pass_unroll.proofs.LabelLists.{more_labels}
-use Rattle.pass_unroll.proofs.turns.labels_from.Goals as goal
+use Rattle.pass_copy.proofs.LabelLists.{more_labels}
+use Rattle.pass_copy.proofs.moving.labels_from.Goals as goal
 
 pub loop-label-preserved : goal.loop-label-preserved
 loop-label-preserved c =

@@ -7,9 +7,8 @@ use Rattle.mlir_ir.specs.declared.types.Op.{Op}
 use Rattle.mlir_ir.specs.declared.types.Pack.{Pack}
 use Rattle.pass_copy.specs.Copied.{HaveGiven}
 use Rattle.pass_copy.proofs.JoinedOps.{joined_nil, joined_assoc, joined_labels, joined_names, view_append}
-use Rattle.pass_unroll.specs.Built.{IsBehind}
-use Rattle.pass_unroll.specs.Copies.{gives_one}
-use Rattle.pass_unroll.specs.declared.place.Out.{Out}
+use Rattle.pass_copy.specs.Built.{IsBehind, gives_one}
+use Rattle.pass_copy.specs.declared.building.Out.{Out}
 
 pub behind_none : (out : Out) → IsBehind out nil out
 behind_none out = record {

@@ -4,7 +4,7 @@ use Rattle.std.proofs.lemmas.List.{drop_all}
 use Rattle.arith_word.specs.declared.label.Label.{Label}
 use Rattle.pass_copy.specs.Renaming.{span, links}
 use Rattle.pass_copy.specs.declared.renaming.Span.{Span}
-use Rattle.pass_unroll.specs.Copies.{label, labels_from}
+use Rattle.pass_copy.specs.Built.{label, labels_from}
 
 pub more_links : (at at2 i : ℕ) (labels : List Label) (l : Label) (spans new all : List Span) → i < length labels → l ≡ get_or labels i l
     → new ≡ spans ++ span at 1 l.0 ∷ [] → at2 ≡ at + 1 → spans ++ links at (drop i labels) ≡ all → new ++ links at2 (drop (i + 1) labels) ≡ all

@@ -2,9 +2,9 @@ use Rattle.std.proofs.Common.{◌∙◌, ◌∷◌, ◌++◌, [], List, ap, refl
 use Rattle.mlir_ir.specs.View.{view_kind}
 use Rattle.mlir_ir.specs.declared.types.IrType.{IrType}
 use Rattle.mlir_ir.specs.declared.types.Pack.{Pack}
-use Rattle.pass_unroll.specs.Built.{fresh_at}
-use Rattle.pass_unroll.proofs.BuiltBehind.{simple_behind, one_pack, pack_of}
-use Rattle.pass_unroll.proofs.place.Out.push_one.Goals as goal
+use Rattle.pass_copy.specs.Built.{fresh_at}
+use Rattle.pass_copy.proofs.BuiltBehind.{simple_behind, one_pack, pack_of}
+use Rattle.pass_copy.proofs.building.Out.push_one.Goals as goal
 
 pub returns-clause-built : goal.returns-clause-built
 returns-clause-built c =
