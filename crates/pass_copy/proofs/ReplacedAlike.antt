@@ -5,7 +5,7 @@ use Rattle.mlir_ir.specs.declared.types.Pack.{Pack}
 use Rattle.mlir_ir.specs.Operations.{OpKind, Simple, If, For, While, OpList, nil, next, labels_of, inner_labels}
 use Rattle.mlir_ir.specs.Rules.{arg_types}
 use Rattle.mlir_ir.specs.Typed.{Types, with_types, TypedOp, TypedOps, TypedRegions}
-use Rattle.pass_copy.specs.Arrivals.{Claim}
+use Rattle.pass_copy.specs.Reported.{Claim}
 use Rattle.pass_copy.specs.Renamed.{keep}
 use Rattle.pass_copy.specs.Replaced.{Operation, op_labels, is_loop, StandsIn, StandsInside, replaced, replaced_inside}
 pub use Rattle.pass_copy.proofs.RenamedOps.{kept_args, kept_packs}

@@ -5,7 +5,7 @@ use Rattle.mlir_ir.specs.Operations.{OpList, labels_of}
 use Rattle.mlir_ir.specs.Limits.{item_limit}
 use Rattle.mlir_ir.specs.Typed.{Types, TypedItems, types_after, types_after_items}
 use Rattle.mlir_ir.proofs.RunTraces.{prefix_self}
-use Rattle.pass_copy.specs.Arrivals.{Claim}
+use Rattle.pass_copy.specs.Reported.{Claim}
 use Rattle.pass_copy.specs.Replaced.{Operation, op_labels, item_end, StandsInItems, replaced, replaced_items}
 use Rattle.pass_copy.proofs.RunEnds.{ends_ops, ends_items}
 use Rattle.pass_copy.proofs.Claims.{after_done, items_claim}

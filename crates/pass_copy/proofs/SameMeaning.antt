@@ -24,7 +24,7 @@ use Rattle.mlir_ir.specs.WellFormed.{IsTypedBody, IsSizedBody}
 use Rattle.mlir_ir.proofs.RunBudgets.{budgets_extend}
 use Rattle.mlir_ir.proofs.RunTraces.{prefix_self}
 use Rattle.mlir_ir.proofs.SizedFunctions.{well_formed}
-use Rattle.pass_copy.specs.Arrivals.{Claim, AllHoldAt, HoldsIn}
+use Rattle.pass_copy.specs.Reported.{Claim, AllHoldAt, HoldsIn}
 use Rattle.pass_copy.specs.Meaning.{outcome_on, trace_on, parent_budget, Finishes, HasSameMeaning}
 use Rattle.pass_copy.specs.Renamed.{relabels}
 use Rattle.pass_copy.specs.Replaced.{Operation, op_labels, item_end, StandsInBody, StandsAt, replaced_items, replaced_body, replaced_func}
