@@ -19,6 +19,7 @@ pub mod TypedRenamed
 pub mod NamedRenamed
 pub mod UntouchedParts
 pub mod ItemPlaces
+pub mod LoopScopes
 pub mod TypedReplaced
 pub mod NamedReplaced
 pub mod TypedItems

@@ -3,6 +3,7 @@ pub mod Renaming
 pub mod Fresh
 pub mod Meaning
 pub mod Replaced
+pub mod Scopes
 pub mod Reported
 pub mod ItemLabels
 pub mod Listed
