@@ -35,3 +35,4 @@ pub mod MainLoop
 pub mod RenamedCounts
 pub mod RestLoop
 pub mod UnrolledLoops
+pub mod PeeledLoop

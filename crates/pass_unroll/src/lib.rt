@@ -4,6 +4,7 @@
 
 mod full;
 mod laws;
+mod peeled;
 mod plan;
 mod source;
 mod turns;
@@ -11,6 +12,7 @@ mod unrolled;
 
 pub use full::{full_map, push_full};
 pub use laws::{children_are_well_formed, children_mean_the_same};
+pub use peeled::push_peeled;
 pub use plan::Plan;
 pub use source::{Source, source_at};
 pub use unrolled::{By, push_unrolled};
