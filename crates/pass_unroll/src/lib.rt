@@ -2,6 +2,8 @@
 //! the operations that stand for the loop.
 #![tactic(auto)]
 
+mod calls;
+mod counts;
 mod full;
 mod laws;
 mod peeled;
@@ -10,6 +12,7 @@ mod source;
 mod turns;
 mod unrolled;
 
+pub use calls::{peel, unroll, unroll_full};
 pub use full::{full_map, push_full};
 pub use laws::{children_are_well_formed, children_mean_the_same};
 pub use peeled::push_peeled;
