@@ -1,4 +1,5 @@
 mod Tests
+mod TypeTests
 mod PieceTokens
 mod PieceTrees
 mod PiecePhrases
@@ -28,6 +29,16 @@ mod ReadModules
 mod ReadTexts
 mod HeldScopes
 mod HeldResults
+mod KnownTypes
+mod FreeNames
+mod SeenUses
+mod SeenLists
+mod FitPacks
+mod FitSimple
+mod FitIfs
+mod FitFors
+mod FitWhiles
+mod FitOperations
 mod MovedLabels
 mod ReadableParts
 mod ReadableRows

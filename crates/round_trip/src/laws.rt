@@ -1,4 +1,4 @@
-ghost use Rattle.std.specs.Prelude.{◌≡◌, ◌↔◌, List, [], ◌∷◌, map};
+ghost use Rattle.std.specs.Prelude.{◌≡◌, ◌↔◌, List, [], ◌∷◌, ◌≤◌, length, map, sum};
 ghost use Rattle.mlir_ir.specs.Tokens.{AreTokens};
 ghost use Rattle.mlir_ir.specs.Terminals.{terminal_of};
 ghost use Rattle.mlir_ir.specs.Trees.{IsTreeOf};
@@ -19,6 +19,9 @@ ghost use Rattle.mlir_ir.specs.Reads.{Reads, phrase_in, plain_func};
 ghost use Rattle.mlir_ir.specs.Resolved.{funcs_of};
 ghost use Rattle.mlir_ir.specs.ScopeFaults.{text_breaks};
 ghost use Rattle.round_trip.specs.Flat.{flat};
+ghost use Rattle.round_trip.specs.KeepsLimits.{KeepsLimits, func_ops};
+ghost use Rattle.round_trip.specs.Sound.{Each};
+ghost use Rattle.mlir_ir.specs.Limits.{func_limit, item_limit, module_op_limit};
 ghost use Rattle.round_trip.specs.Readable.{ReadableModule};
 ghost use Rattle.round_trip.specs.Widths.{IsPrintable};
 
@@ -67,6 +70,22 @@ pub fn canonical_readings()
     ensures unbroken { (m read : Module) (s : Syntax) → IsPrintable m.funcs
         → IsSyntaxOf (module_text m.funcs) s → text_breaks s.tokens (phrase_in s) ≡ []
         → map plain_func read.funcs ≡ flat m.funcs → Reads (module_text m.funcs) read }
+{}
+
+/// The syntax of a canonical text breaks no rule exactly where the flat module keeps its limits;
+/// then the text reads as the modules whose functions are the flat module's. A module keeps them
+/// where it does so itself and no function has more operations than items are allowed.
+pub fn canonical_texts_read()
+    ensures limits { (m : Module) (s : Syntax) → IsPrintable m.funcs
+        → IsSyntaxOf (module_text m.funcs) s
+        → text_breaks s.tokens (phrase_in s) ≡ [] ↔ KeepsLimits (flat m.funcs) }
+    ensures reads { (m read : Module) (s : Syntax) → IsPrintable m.funcs
+        → KeepsLimits (flat m.funcs) → IsSyntaxOf (module_text m.funcs) s
+        → map plain_func read.funcs ≡ flat m.funcs → Reads (module_text m.funcs) read }
+    ensures within { (m : Module) → length m.funcs ≤ func_limit
+        → sum (map (λ (f : Func). func_ops (plain_func f)) m.funcs) ≤ module_op_limit
+        → Each (λ (f : Func). func_ops (plain_func f) ≤ item_limit) m.funcs
+        → KeepsLimits (flat m.funcs) }
 {}
 
 /// Some module is as the laws ask.

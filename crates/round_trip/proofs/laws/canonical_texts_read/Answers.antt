@@ -1,0 +1,18 @@
+use Rattle.round_trip.proofs.FitWhiles.{while_fits}
+use Rattle.round_trip.proofs.FitFors.{for_fits}
+use Rattle.round_trip.proofs.FitIfs.{if_both_fits}
+use Rattle.round_trip.proofs.SeenLists.{region_fine}
+use Rattle.round_trip.proofs.FitPacks.{packs_fine}
+use Rattle.round_trip.proofs.FitSimple.{cast_fits}
+use Rattle.round_trip.proofs.SeenUses.{sees_both}
+use Rattle.round_trip.proofs.ReadableModules.{module_readable}
+use Rattle.round_trip.proofs.laws.canonical_texts_read.Goals as goal
+
+pub returns-clause-limits : goal.returns-clause-limits
+returns-clause-limits c = ?
+
+pub returns-clause-reads : goal.returns-clause-reads
+returns-clause-reads c = ?
+
+pub returns-clause-within : goal.returns-clause-within
+returns-clause-within c = ?
