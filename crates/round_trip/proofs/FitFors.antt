@@ -27,7 +27,7 @@ use Rattle.round_trip.specs.Readable.{Reading, ReadsLabels, HasTypes, FreeArgs}
 use Rattle.round_trip.specs.Flat.{other_label}
 use Rattle.round_trip.specs.ReadUses.{ReadsAs}
 use Rattle.round_trip.specs.Sound.{Each, IsType}
-use Rattle.round_trip.proofs.FitIfs.{BlockFits, GivesOn}
+use Rattle.round_trip.proofs.FitIfs.{ArmFits, GivesOn}
 use Rattle.round_trip.proofs.FitPacks.{args_fine, over_fine}
 use Rattle.round_trip.proofs.FitSimple.{PhraseFits, seen_in}
 use Rattle.round_trip.proofs.ReadFors.{for_phrase, behind_bounds, for_region, for_parts, for_variable, for_results, for_inits, arg_each}
@@ -94,10 +94,11 @@ for_sum funcs loops s k a1 name ty us inits args wanted b parts =
 pub for_fits : (funcs : List Line) (loops : ℕ) (s scope : List Value) (r : Reading) (at depth k a1 a2 i1 : ℕ) (u1 : Phrase) (a3 i2 : ℕ) (u2 : Phrase) (a4 i3 : ℕ) (u3 : Phrase) (c1 c2 y a b d e : ℕ) (lower upper step : Label) (iv : Arg) (args : List Arg) (inits : List Label) (results : List IrType) (n : _) (row : Row_of-Op n) (ends : List Label)
     → Alike s scope → SeesAll s (seen_in i1 u1 ∷ seen_in i2 u2 ∷ seen_in i3 u3 ∷ []) (iv.ty ∷ iv.ty ∷ iv.ty ∷ []) → HasTypes (iv ∷ args) → arg_types args ≡ results → length args ≡ length inits → ReadsLabels r scope inits → Typed r.naming (arg_types args) inits
     → FreeArgs scope (iv ∷ args) → length args ≤ carried_limit → loops + 1 ≤ loop_limit
-    → BlockFits funcs (loops + 1) (s ++ arg_values 0 (iv ∷ args)) (at + 2 + length args) row (block (braces r.naming depth a b d e row ends))
+    → ArmFits funcs (loops + 1) (s ++ arg_values 0 (iv ∷ args)) r.naming (at + 2 + length args) row
     → GivesOn r.naming (scope ++ arg_values (at + 1) (iv ∷ args)) (other_label r.other) (at + 2 + length args) row ends results
     → PhraseFits funcs loops s (plain.For lower upper step iv args inits (view_row row) ends) (for_phrase r.naming k a1 a2 i1 u1 a3 i2 u2 a4 i3 u3 c1 c2 y iv.name iv.ty args inits results (braces r.naming depth a b d e row ends))
-for_fits funcs loops s scope r at depth k a1 a2 i1 u1 a3 i2 u2 a4 i3 u3 c1 c2 y a b d e lower upper step iv args inits results n row ends same sees each types long reads typed free few deep fits gives =
+for_fits funcs loops s scope r at depth k a1 a2 i1 u1 a3 i2 u2 a4 i3 u3 c1 c2 y a b d e lower upper step iv args inits results n row ends same sees each types long reads typed free few deep arm gives =
+    let fits = arm depth a b d e ends in
     let naming = r.naming in
     let parts = braces naming depth a b d e row ends in
     let behind = behind_bounds naming c1 c2 y iv.ty args inits results parts in

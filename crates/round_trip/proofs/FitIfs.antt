@@ -36,6 +36,10 @@ pub record GivesOn (naming : Naming) (scope : List Value) (f : Label → Label) 
   pub reads : Each (λ l. ReadsAs naming (scope ++ row_results at row) l (f l)) ends
   pub typed : Typed naming wanted ends
 
+-- a row in braces, wherever their tokens are
+abbrev pub ArmFits : List Line → ℕ → List Value → Naming → ℕ → {m : _} → Row_of-Op m → Type 0
+ArmFits funcs loops s naming at row = (depth a b c d : ℕ) (ends : List Label) → BlockFits funcs loops s at row (block (braces naming depth a b c d row ends))
+
 both_labels : (a b c d : ℕ) → a ≡ c → b ≡ d → 0 + a + b ≡ c + d
 both_labels a b c d e g = omega (arith, e, g)
 
@@ -48,9 +52,10 @@ module _ (funcs : List Line) (loops : ℕ) (s scope : List Value) (naming : Nami
       region_fine naming (scope ++ row_results at row) (s ++ defined_by b1) f depth a b d e word n row ends results (alike_more s scope (defined_by b1) (row_results at row) same fits.defined) is gives.reads gives.typed
 
   pub if_alone_fits : (at depth k i x y a b d e : ℕ) (u : Phrase) (c : Label) (results : List IrType) (n : _) (row : Row_of-Op n) (ends : List Label) → Sees s (seen_in i u) truth → Each IsType results
-      → BlockFits funcs loops s at row (block (braces naming depth a b d e row ends)) → GivesOn naming scope f at row ends results → results ≡ []
+      → ArmFits funcs loops s naming at row → GivesOn naming scope f at row ends results → results ≡ []
       → PhraseFits funcs loops s (plain.If c (view_row row) ends false plain.nil []) (token k ts.If (codes "scf.if") (line forms.Use i u (said x (arrow_list_piece results) (line forms.Region y (braces naming depth a b d e row ends) done))))
-  if_alone_fits at depth k i x y a b d e u c [] n row ends sees is fits gives none =
+  if_alone_fits at depth k i x y a b d e u c [] n row ends sees is arm gives empty =
+      let fits = arm depth a b d e ends in
       let ops = fits.ops in
       let labels = fits.labels in
       record {
@@ -59,7 +64,7 @@ module _ (funcs : List Line) (loops : ℕ) (s scope : List Value) (naming : Nami
         ops = omega (arith, ops);
         labels = omega (arith, labels);
       }
-  if_alone_fits at depth k i x y a b d e u c (ty ∷ more) n row ends sees is fits gives none = cc
+  if_alone_fits at depth k i x y a b d e u c (ty ∷ more) n row ends sees is arm gives empty = cc
 
   -- the parts of an `scf.if` with both regions, whose results are found in the phrase
   if_sum : (at at2 depth k a b d e a2 b2 d2 e2 : ℕ) (u : Use) (results found : List IrType) (n : _) (row : Row_of-Op n) (ends : List Label) (n2 : _) (row2 : Row_of-Op n2) (ends2 : List Label) → Sees s u truth → Each IsType results → found ≡ results
@@ -76,17 +81,22 @@ module _ (funcs : List Line) (loops : ℕ) (s scope : List Value) (naming : Nami
       λ q. types_fine s (u ∷ []) (truth ∷ []) (sees, tt) q ++ fits.breaks q ++ first q ++ fits2.breaks q ++ second q
 
   pub if_both_fits : (at at2 depth k i x y z w a b d e a2 b2 d2 e2 : ℕ) (u : Phrase) (c : Label) (results : List IrType) (n : _) (row : Row_of-Op n) (ends : List Label) (n2 : _) (row2 : Row_of-Op n2) (ends2 : List Label) → Sees s (seen_in i u) truth → Each IsType results
-      → BlockFits funcs loops s at row (block (braces naming depth a b d e row ends)) → GivesOn naming scope f at row ends results
-      → BlockFits funcs loops s at2 row2 (block (braces naming depth a2 b2 d2 e2 row2 ends2)) → GivesOn naming scope f at2 row2 ends2 results
+      → ArmFits funcs loops s naming at row → GivesOn naming scope f at row ends results
+      → ArmFits funcs loops s naming at2 row2 → GivesOn naming scope f at2 row2 ends2 results
       → PhraseFits funcs loops s (plain.If c (view_row row) ends true (view_row row2) ends2)
       (token k ts.If (codes "scf.if") (line forms.Use i u (said x (arrow_list_piece results) (line forms.Region y (braces naming depth a b d e row ends) (token z ts.Else (codes "else") (line forms.Region w (braces naming depth a2 b2 d2 e2 row2 ends2) done))))))
-  if_both_fits at at2 depth k i x y z w a b d e a2 b2 d2 e2 u c [] n row ends n2 row2 ends2 sees is fits gives fits2 gives2 = record {
+  if_both_fits at at2 depth k i x y z w a b d e a2 b2 d2 e2 u c [] n row ends n2 row2 ends2 sees is arm gives arm2 gives2 =
+      let fits = arm depth a b d e ends in
+      let fits2 = arm2 depth a2 b2 d2 e2 ends2 in
+      record {
     uses = each_uses s k truth (seen_in i u ∷ []) (sees, tt);
     inside = if_sum at at2 depth k a b d e a2 b2 d2 e2 (seen_in i u) [] [] n row ends n2 row2 ends2 sees is refl fits gives fits2 gives2;
     ops = λ q. fits.ops q + fits2.ops q;
     labels = both_labels (block_labels (block (braces naming depth a b d e row ends))) (block_labels (block (braces naming depth a2 b2 d2 e2 row2 ends2))) _ _ fits.labels fits2.labels;
   }
-  if_both_fits at at2 depth k i x y z w a b d e a2 b2 d2 e2 u c (ty ∷ more) n row ends n2 row2 ends2 sees is fits gives fits2 gives2 =
+  if_both_fits at at2 depth k i x y z w a b d e a2 b2 d2 e2 u c (ty ∷ more) n row ends n2 row2 ends2 sees is arm gives arm2 gives2 =
+      let fits = arm depth a b d e ends in
+      let fits2 = arm2 depth a2 b2 d2 e2 ends2 in
       let parts = braces naming depth a b d e row ends in
       let others = braces naming depth a2 b2 d2 e2 row2 ends2 in
       record {

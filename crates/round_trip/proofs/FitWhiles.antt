@@ -47,7 +47,7 @@ params_types (p ∷ ps) = ap (λ (l : List IrType). p.1.ty ∷ l) (params_types 
 
 pub params_count : (ps : List (Defined × Written)) (args : List Arg) → args_of ps ≡ args → length ps ≡ length args
 params_count ps args e =
-    let a = length-map ps (λ (p : Defined × Written). record { name = p.0.name; ty = p.1.ty }) in
+    let a = length-map {B = Arg} ps (λ (p : Defined × Written). record { name = p.0.name; ty = p.1.ty }) in
     let b : length (args_of ps) ≡ length args = ap length e in
     omega (arith, a, b)
 

@@ -6,11 +6,12 @@ use Rattle.std.specs.List.{list_all}
 use Rattle.std.specs.Option.{option_map, option_map_or}
 use Rattle.arith_word.specs.declared.label.Label.{Label}
 use Rattle.arith_word.specs.declared.op.CastOp.{CastOp}
+use Rattle.mlir_ir.specs.Canonical.{Naming}
 use Rattle.mlir_ir.specs.Rules.{casts, is_in_scope, has_type, have_types, agree, gives_cast, same_type}
 use Rattle.mlir_ir.specs.Values.{Value, value_at, type_at}
 use Rattle.mlir_ir.specs.declared.types.IrType.{IrType}
-use Rattle.round_trip.specs.Readable.{Reading, TypesAre, GivesType, CastGives}
-use Rattle.round_trip.specs.Sound.{Each}
+use Rattle.round_trip.specs.Readable.{Reading, TypesAre, GivesType, CastGives, AreCompared}
+use Rattle.round_trip.specs.Sound.{Each, IsType, Finds}
 use Rattle.round_trip.proofs.HeldScopes.{Held}
 use Rattle.round_trip.proofs.TypeTests.{same_type_is, equal_lengths}
 use Rattle.round_trip.proofs.Tests.{and_parts, same_or}
@@ -38,6 +39,12 @@ one_known values scope ty l k t =
     let same : ty ≡ k.ty = same_type_is ty k.ty (subst (λ (o : Option IrType). option_map_or (same_type ty) o true ≡ true) k.here t) in
     k.there ∙ ap (λ (x : IrType). Some x) (sym same)
 
+type_found : (naming : Naming) (l : Label) (ty : IrType) → Finds naming l → type_at naming.values l.0 ≡ Some ty → IsType ty
+type_found naming l ty f t =
+    let both : Some f.value.ty ≡ Some ty = sym (ap (option_map (λ (w : Value). w.ty)) f.found) ∙ t in
+    let same : f.value.ty ≡ ty = cc in
+    subst (λ (x : IrType). IsType x) same f.ty
+
 module _ (r : Reading) (scope : List Value) (h : Each (Held r.naming.values scope) scope) where
   pub type_known : (ty : IrType) (l : Label) → is_in_scope scope l ≡ true → has_type scope ty l ≡ true → GivesType r (ty ∷ []) l
   type_known ty l e t = let k = knows r.naming.values scope scope l h e in λ i. one_known r.naming.values scope ty l k t i ∷ []
@@ -59,12 +66,17 @@ module _ (r : Reading) (scope : List Value) (h : Each (Held r.naming.values scop
       let same = subst (λ (o : Option IrType). option_map_or (λ (ty : IrType). has_type scope ty b) o true ≡ true) ka.here t in
       ka.there ∙ sym (one_known r.naming.values scope ka.ty b kb same)
 
-  pub cast_known : (op : CastOp) (results : List IrType) (l : Label) → is_in_scope scope l ≡ true → gives_cast scope op l results ≡ true → length results ≡ 1 → CastGives r op results l
-  cast_known op [] l e t n = absurd (omega arith)
-  cast_known op (ty ∷ []) l e t n =
+  pub compare_known : (a b : Label) → is_in_scope scope a ≡ true → is_in_scope scope b ≡ true → agree scope a b ≡ true → Finds r.naming a → AreCompared r a b
+  compare_known a b ea eb t finds =
+      let ka = knows r.naming.values scope scope a h ea in
+      (ka.ty, type_found r.naming a ka.ty finds ka.there, ka.there, sym (agree_known a b ea eb t) ∙ ka.there)
+
+  pub cast_known : (op : CastOp) (results : List IrType) (l : Label) → is_in_scope scope l ≡ true → gives_cast scope op l results ≡ true → length results ≡ 1 → Finds r.naming l → CastGives r op results l
+  cast_known op [] l e t n finds = absurd (omega arith)
+  cast_known op (ty ∷ []) l e t n finds =
       let k = knows r.naming.values scope scope l h e in
-      (k.ty, k.there, (subst (λ (o : Option IrType). option_map_or (λ (from : IrType). casts op from ty) o true ≡ true) k.here t, tt))
-  cast_known op (ty ∷ other ∷ more) l e t n = absurd (omega arith)
+      (k.ty, type_found r.naming l k.ty finds k.there, k.there, (subst (λ (o : Option IrType). option_map_or (λ (from : IrType). casts op from ty) o true ≡ true) k.here t, tt))
+  cast_known op (ty ∷ other ∷ more) l e t n finds = absurd (omega arith)
 
 -- lengths
 

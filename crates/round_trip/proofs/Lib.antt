@@ -38,6 +38,7 @@ mod FitSimple
 mod FitIfs
 mod FitFors
 mod FitWhiles
+mod FitKinds
 mod FitOperations
 mod MovedLabels
 mod ReadableParts

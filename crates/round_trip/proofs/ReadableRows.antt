@@ -25,7 +25,7 @@ use Rattle.round_trip.proofs.HeldResults.{results_held, packs_reads, Shifts, shi
 use Rattle.round_trip.proofs.ReadItems.{append_nil}
 use Rattle.round_trip.proofs.ReadableParts.{Keeps, op_free, literal_of, args_typed, map_both, results_moved, RowKept, arm_kept}
 use Rattle.round_trip.proofs.TypeTests.{same_type_is, same_types_are, equal_lengths, types_length}
-use Rattle.round_trip.proofs.KnownTypes.{type_known, types_known, agree_known, cast_known, yield_long, no_results}
+use Rattle.round_trip.proofs.KnownTypes.{type_known, types_known, agree_known, compare_known, cast_known, yield_long, no_results}
 use Rattle.round_trip.proofs.FreeNames.{names_moved, same_more, free_args, free_packs}
 
 truth_of : (results : List IrType) → (length results == 1) ≡ true → same_types (truth ∷ []) results ≡ true → results ≡ truth ∷ []
@@ -138,12 +138,12 @@ mutual
       let u = labels_read r scope (a ∷ []) g k.in_scope in
       let t = and_parts (may_lose op || not (has_flags flags)) (gives_cast scope op a results) k.typed in
       let i = and_parts (is_in_scope scope a) true k.in_scope in
-      (s.0, s.2, u.0, cast_known r scope g op results a i.0 t.1 (equal_lengths (length results) 1 k.counted))
+      (s.0, s.2, u.0, cast_known r scope g op results a i.0 t.1 (equal_lengths (length results) 1 k.counted) s.1)
   kind_kept r scope nest at p to m e results (Cmp pred a b) s sh k g f c h =
       let u = labels_read r scope (a ∷ b ∷ []) g k.in_scope in
       let t = and_parts (agree scope a b) (same_types (truth ∷ []) results) k.typed in
       let i = in_scopes scope a b [] k.in_scope in
-      (truth_of results k.counted t.1, u.0, u.1.0, agree_known r scope g a b i.0 i.1 t.0)
+      (truth_of results k.counted t.1, u.0, u.1.0, compare_known r scope g a b i.0 i.1 t.0 s.0)
   kind_kept r scope nest at p to m e results (Select x a b) s sh k g f c h = 
       let u = labels_read r scope (x ∷ a ∷ b ∷ []) g k.in_scope in
       let t = and_parts (has_type scope truth x && agree scope a b) (gives_type_of scope a results) k.typed in

@@ -31,7 +31,7 @@ use Rattle.round_trip.proofs.SeenUses.{Alike, SeesAll, use_sees, type_of_use, en
 abbrev pub Typed : Naming → List IrType → List Label → Type 0
 Typed naming types ls = map (λ (l : Label). type_at naming.values l.0) ls ≡ map (λ (ty : IrType). Some ty) types
 
-typed_first : (naming : Naming) (ty : IrType) (types : List IrType) (l : Label) (ls : List Label) → Typed naming (ty ∷ types) (l ∷ ls) → (type_at naming.values l.0 ≡ Some ty) × Typed naming types ls
+pub typed_first : (naming : Naming) (ty : IrType) (types : List IrType) (l : Label) (ls : List Label) → Typed naming (ty ∷ types) (l ∷ ls) → (type_at naming.values l.0 ≡ Some ty) × Typed naming types ls
 typed_first naming ty types l ls e = let first : type_at naming.values l.0 ≡ Some ty = cc in let rest : Typed naming types ls = cc in (first, rest)
 
 -- first values of loop-carried values with these types

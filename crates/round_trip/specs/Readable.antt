@@ -58,7 +58,11 @@ GivesType r results l = TypesAre r results (l ∷ [])
 
 -- a cast leads from the type of the used value to the results
 abbrev pub CastGives : Reading → CastOp → List IrType → Label → Type 0
-CastGives r op results l = (from : IrType) × (type_at r.naming.values l.0 ≡ Some from) × Each (λ (ty : IrType). casts op from ty ≡ true) results
+CastGives r op results l = (from : IrType) × IsType from × (type_at r.naming.values l.0 ≡ Some from) × Each (λ (ty : IrType). casts op from ty ≡ true) results
+
+-- two used values have one type
+abbrev pub AreCompared : Reading → Label → Label → Type 0
+AreCompared r a b = (ty : IrType) × IsType ty × (type_at r.naming.values a.0 ≡ Some ty) × (type_at r.naming.values b.0 ≡ Some ty)
 
 -- arguments whose names differ from one another, and from those in scope
 abbrev pub FreeArgs : List Value → List Arg → Type 0
@@ -80,7 +84,7 @@ abbrev mutual
   ReadableKind r scope at results (Const v) = IsLiteral v results
   ReadableKind r scope at results (Bin op flags a b) = OneType results × HaveFlags (may_wrap op) flags × ReadsLabel r scope a × ReadsLabel r scope b × GivesType r results a × GivesType r results b
   ReadableKind r scope at results (Cast op flags a) = OneType results × HaveFlags (may_lose op) flags × ReadsLabel r scope a × CastGives r op results a
-  ReadableKind r scope at results (Cmp pred a b) = (results ≡ truth ∷ []) × ReadsLabel r scope a × ReadsLabel r scope b × (type_at r.naming.values a.0 ≡ type_at r.naming.values b.0)
+  ReadableKind r scope at results (Cmp pred a b) = (results ≡ truth ∷ []) × ReadsLabel r scope a × ReadsLabel r scope b × AreCompared r a b
   ReadableKind r scope at results (Select c a b) = OneType results × ReadsLabel r scope c × ReadsLabel r scope a × ReadsLabel r scope b × GivesType r (truth ∷ []) c × GivesType r results a × GivesType r results b
   ReadableKind r scope at results (Call func uses) =
       Each IsType results × ReadsLabels r scope uses × (place_named (slice_index_or r.naming.funcs func []) r.naming.funcs ≡ func)
