@@ -24,7 +24,7 @@ use Rattle.round_trip.proofs.TypeTests.{same_type_of}
 
 -- scopes that differ in labels alone
 
-abbrev bare : List Value → List Value
+abbrev pub bare : List Value → List Value
 bare vs = map (moved_value (λ l. 0)) vs
 
 abbrev pub Alike : List Value → List Value → Type 0
