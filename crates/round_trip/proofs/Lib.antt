@@ -40,6 +40,10 @@ mod FitFors
 mod FitWhiles
 mod FitKinds
 mod FitOperations
+mod FitItems
+mod FlatCounts
+mod FitFunctions
+mod FitModules
 mod MovedLabels
 mod ReadableParts
 mod ReadableRows

@@ -1,3 +1,4 @@
+use Rattle.round_trip.proofs.FitItems.{body_items_fit}
 use Rattle.round_trip.proofs.FitOperations.{kind_fits}
 use Rattle.round_trip.proofs.FitKinds.{CallFits}
 use Rattle.round_trip.proofs.FitWhiles.{while_fits}
