@@ -1,3 +1,4 @@
+use Rattle.round_trip.proofs.FlatCounts.{limits_kept}
 use Rattle.round_trip.proofs.FitItems.{body_items_fit}
 use Rattle.round_trip.proofs.FitOperations.{kind_fits}
 use Rattle.round_trip.proofs.FitKinds.{CallFits}
@@ -18,4 +19,4 @@ pub returns-clause-reads : goal.returns-clause-reads
 returns-clause-reads c = ?
 
 pub returns-clause-within : goal.returns-clause-within
-returns-clause-within c = ?
+returns-clause-within c = λ m few all each. limits_kept m.funcs few all each
