@@ -28,11 +28,11 @@ scope_names [] name = refl
 scope_names (v ∷ vs) name = λ i. turn_bytes name v.name i || scope_names vs name i
 
 -- definitions whose names differ from these, and from one another
-abbrev Apart : List (List ℕ) → List Defined → Type 0
+abbrev pub Apart : List (List ℕ) → List Defined → Type 0
 Apart names [] = Unit {0}
 Apart names (d ∷ ds) = (is_defined d.name names ≡ false) × Apart (d.name ∷ names) ds
 
-apart_fine : (names : List (List ℕ)) (ds : List Defined) → Apart names ds → repeated names ds ≡ []
+pub apart_fine : (names : List (List ℕ)) (ds : List Defined) → Apart names ds → repeated names ds ≡ []
 apart_fine names [] h = refl
 apart_fine names (d ∷ ds) h = λ i. no_break (is_defined d.name names) d.at Twice h.0 i ++ apart_fine (d.name ∷ names) ds h.1 i
 

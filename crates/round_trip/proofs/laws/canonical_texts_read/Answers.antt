@@ -1,3 +1,4 @@
+use Rattle.round_trip.proofs.FitModules.{call_fits}
 use Rattle.round_trip.proofs.FitFunctions.{decl_fits}
 use Rattle.round_trip.proofs.FlatCounts.{limits_kept}
 use Rattle.round_trip.proofs.FitItems.{body_items_fit}
