@@ -56,7 +56,7 @@ nameless_types : (args : List Arg) → map (λ (arg : Arg). arg.ty) (map {B = Ar
 nameless_types [] = refl
 nameless_types (arg ∷ args) = ap (λ (l : List IrType). arg.ty ∷ l) (nameless_types args)
 
-line_of : (names : List (List ℕ)) (f : Func) (body : Option Body) (w : ℕ) (parts : Phrase) → FuncRead names f.index f.name (flat_of_body f body) parts → LineOf f (record { at = w; parts = parts })
+pub line_of : (names : List (List ℕ)) (f : Func) (body : Option Body) (w : ℕ) (parts : Phrase) → FuncRead names f.index f.name (flat_of_body f body) parts → LineOf f (record { at = w; parts = parts })
 line_of names f None w parts h = record { name = h.name_is; args = ap (λ (g : PlainFunc). map (λ (arg : Arg). arg.ty) g.args) h.func ∙ nameless_types f.args; results = ap (λ (g : PlainFunc). g.results) h.func }
 line_of names f (Some body) w parts h = record { name = h.name_is; args = ap (λ (g : PlainFunc). map (λ (arg : Arg). arg.ty) g.args) h.func; results = ap (λ (g : PlainFunc). g.results) h.func }
 

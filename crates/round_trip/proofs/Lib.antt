@@ -44,6 +44,8 @@ mod FitItems
 mod FlatCounts
 mod FitFunctions
 mod FitModules
+mod ShortNames
+mod FitTexts
 mod MovedLabels
 mod ReadableParts
 mod ReadableRows

@@ -58,7 +58,7 @@ pub types_each : (args : List Arg) → HasTypes args → Each IsType (map (λ (a
 types_each [] is = tt
 types_each (arg ∷ args) is = (is.0, types_each args is.1)
 
-decl_read : (names : List (List ℕ)) (f : Func) (k a s l c d e : ℕ) → HasTypes f.args → Each IsType f.results
+pub decl_read : (names : List (List ℕ)) (f : Func) (k a s l c d e : ℕ) → HasTypes f.args → Each IsType f.results
     → FuncRead names f.index f.name (with_body f (map (λ (arg : Arg). nameless arg.ty) f.args) None) (func_phrase k a s l c d e f.private f.name (types_piece (map (λ (arg : Arg). arg.ty) f.args)) f.results done)
 decl_read names f k a s l c d e has is =
     let types = map (λ (arg : Arg). arg.ty) f.args in

@@ -1,3 +1,4 @@
+use Rattle.round_trip.proofs.FitTexts.{phrase_limits}
 use Rattle.round_trip.proofs.FitModules.{call_fits}
 use Rattle.round_trip.proofs.FitFunctions.{decl_fits}
 use Rattle.round_trip.proofs.FlatCounts.{limits_kept}
