@@ -22,7 +22,7 @@ pack_named : (Q : List ℕ → Type 0) (at : ℕ) (pack : Pack) (place : ℕ) (t
 pack_named Q at pack place [] h = tt
 pack_named Q at pack place (ty ∷ tys) h = (h, pack_named Q (at + 1) pack (place + 1) tys h)
 
-results_named : (Q : List ℕ → Type 0) (at : ℕ) (packs : List Pack) (tys : List IrType) → Each (λ (pack : Pack). Q pack.name) packs → Each (λ (v : Value). Q v.name) (result_values at packs tys)
+pub results_named : (Q : List ℕ → Type 0) (at : ℕ) (packs : List Pack) (tys : List IrType) → Each (λ (pack : Pack). Q pack.name) packs → Each (λ (v : Value). Q v.name) (result_values at packs tys)
 results_named Q at [] tys h = tt
 results_named Q at (pack ∷ packs) tys h =
     each_append (λ (v : Value). Q v.name) (pack_values at pack 0 (take pack.count tys)) (result_values (at + pack.count) packs (drop pack.count tys)) (pack_named Q at pack 0 (take pack.count tys) h.0)

@@ -45,6 +45,7 @@ mod FlatCounts
 mod FitFunctions
 mod FitModules
 mod ShortNames
+mod ShortTexts
 mod FitTexts
 mod MovedLabels
 mod ReadableParts

@@ -1,4 +1,5 @@
 use Rattle.round_trip.proofs.FitTexts.{phrase_limits}
+use Rattle.round_trip.proofs.ShortTexts.{text_short}
 use Rattle.round_trip.proofs.FitModules.{call_fits}
 use Rattle.round_trip.proofs.FitFunctions.{decl_fits}
 use Rattle.round_trip.proofs.FlatCounts.{limits_kept}
