@@ -1,5 +1,5 @@
 -- An `scf.for` whose body breaks no rule breaks none.
-use Rattle.std.proofs.Common.{◌≡◌, ℕ, ◌+◌, ◌≤◌, false, nat_le, List, [], ◌∷◌, ◌++◌, refl, ap, ◌∙◌, sym, subst, codes, map, length, arith}
+use Rattle.std.proofs.Common.{◌≡◌, ℕ, ◌+◌, ◌≤◌, false, nat_le, List, [], ◌∷◌, ◌++◌, refl, ap, ◌∙◌, sym, subst, map, length, arith}
 use Rattle.std.proofs.lemmas.Bool.Decides.{nat_tests}
 use Rattle.std.proofs.lemmas.List.{length-map}
 use Rattle.std.specs.List.{flat_map}
@@ -9,15 +9,14 @@ use Rattle.mlir_ir.specs.Check.{row_results}
 use Rattle.mlir_ir.specs.Limits.{carried_limit, loop_limit}
 use Rattle.mlir_ir.specs.Operations as plain
 use Rattle.mlir_ir.specs.Operations.{count_of, labels_of}
-use Rattle.mlir_ir.specs.Phrases.{Phrase, Line, done, token, line, lines, inside}
+use Rattle.mlir_ir.specs.Phrases.{Phrase, Line, lines}
 use Rattle.mlir_ir.specs.Resolved.{tys, carried, inits_used}
 use Rattle.mlir_ir.specs.Rules.{arg_types}
 use Rattle.mlir_ir.specs.ScopeFaults.{Break, broken, uses_breaks, block_breaks, differs, listed_breaks, names_of, repeated, over, region_ending, op_tokens, block_labels, defined_by}
-use Rattle.mlir_ir.specs.Source.{Block, Defined, Use, none, use_of, block, region_behind, inits_of, result_types, uses_in}
+use Rattle.mlir_ir.specs.Source.{Block, Defined, Use, none, use_of, block, region_behind, inits_of, result_types}
 use Rattle.mlir_ir.specs.Values.{Value, arg_values}
 use Rattle.mlir_ir.specs.View.{view_row}
 use Rattle.mlir_ir.specs.declared.scope_kind.ScopeKind.TheVariants.{Limit, WrongType}
-use Rattle.mlir_ir.specs.declared.terminal.Terminal.TheVariants as ts
 use Rattle.mlir_ir.specs.declared.syntax.Form.TheVariants as forms
 use Rattle.mlir_ir.specs.declared.types.Arg.{Arg}
 use Rattle.mlir_ir.specs.declared.types.IrType.{IrType}
@@ -26,14 +25,14 @@ use Rattle.mlir_ir.specs.declared.types.Region.{Row_of-Op}
 use Rattle.round_trip.specs.Readable.{Reading, ReadsLabels, HasTypes, FreeArgs}
 use Rattle.round_trip.specs.Flat.{other_label}
 use Rattle.round_trip.specs.ReadUses.{ReadsAs}
-use Rattle.round_trip.specs.Sound.{Each, IsType}
+use Rattle.round_trip.specs.Sound.{Each}
 use Rattle.round_trip.proofs.FitIfs.{ArmFits, GivesOn}
 use Rattle.round_trip.proofs.FitPacks.{args_fine, over_fine}
 use Rattle.round_trip.proofs.FitSimple.{PhraseFits, seen_in}
 use Rattle.round_trip.proofs.ReadFors.{for_phrase, behind_bounds, for_region, for_parts, for_variable, for_results, for_inits, arg_each}
 use Rattle.round_trip.proofs.ReadIfs.{braces}
 use Rattle.round_trip.proofs.SeenLists.{Typed, InitsSeen, inits_seen, region_fine}
-use Rattle.round_trip.proofs.SeenUses.{Sees, SeesAll, Alike, alike_more, args_alike, same_names, no_break, uses_fine, listed_fine, each_differs, sees_both}
+use Rattle.round_trip.proofs.SeenUses.{SeesAll, Alike, alike_more, args_alike, same_names, no_break, uses_fine, listed_fine, each_differs, sees_both}
 
 -- loop-carried values
 
@@ -128,7 +127,7 @@ for_fits funcs loops s scope r at depth k a1 a2 i1 u1 a3 i2 u2 a4 i3 u3 c1 c2 y 
     let many = inits_count s args (arg_types args) (inits_of behind) S in
     record {
       uses = ap (λ (ls : List Line). uses_breaks s k ((us ++ map use_of ls) ++ inits_used (inits_of behind))) U
-      ∙ uses_fine s k (us ++ inits_used (inits_of behind)) ((iv.ty ∷ iv.ty ∷ iv.ty ∷ []) ++ results) (sees_both s us (inits_used (inits_of behind)) (iv.ty ∷ iv.ty ∷ iv.ty ∷ []) results sees seen);
+          ∙ uses_fine s k (us ++ inits_used (inits_of behind)) ((iv.ty ∷ iv.ty ∷ iv.ty ∷ []) ++ results) (sees_both s us (inits_used (inits_of behind)) (iv.ty ∷ iv.ty ∷ iv.ty ∷ []) results sees seen);
       inside =
           (λ t. for_sum funcs loops s k a1 iv.name (V t) (us ++ map use_of (U t)) (inits_of behind) (A t) (R t) (B t) (P t))
           ∙ (λ t. bounds t ++ (listed_fine s k (inits_used (inits_of behind)) results seen t ++ names t ++ limits.0 t ++ limits.1 t) ++ fits.breaks t ++ ending t);

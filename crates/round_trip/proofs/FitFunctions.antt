@@ -1,5 +1,5 @@
 -- The lines of functions that are read back break no rule but the limit of items.
-use Rattle.std.proofs.Common.{◌≡◌, ◌↔◌, ℕ, ◌+◌, ◌≤◌, Bool, true, false, List, [], ◌∷◌, ◌++◌, refl, ap, ◌∙◌, sym, subst, codes, map, length, arith, Option, None, Some}
+use Rattle.std.proofs.Common.{◌≡◌, ℕ, ◌≤◌, Bool, true, false, List, [], ◌∷◌, ◌++◌, refl, ap, ◌∙◌, sym, subst, codes, map, length, arith, Some}
 use Rattle.std.proofs.lemmas.List.{length-map}
 use Rattle.std.specs.List.{flat_map}
 use Rattle.arith_word.specs.Labels.{label_at}
@@ -9,8 +9,8 @@ use Rattle.mlir_ir.specs.Phrases.{Phrase, Line, done, token, line, lines, inside
 use Rattle.mlir_ir.specs.Resolved.{args_of, tys, func_args}
 use Rattle.mlir_ir.specs.ScopeFaults.{over, repeated, block_breaks, op_tokens, item_tokens, wide_items, defined_by, body_breaks, arg_tokens, func_breaks, ending_breaks, func_op_tokens}
 use Rattle.mlir_ir.specs.Sized.{SizedBody, items_count}
-use Rattle.mlir_ir.specs.Source.{Defined, Written, block, ending, params_in, listed_types, result_types, types_in}
-use Rattle.mlir_ir.specs.Values.{Value, arg_values}
+use Rattle.mlir_ir.specs.Source.{Defined, Written, block, ending, params_in, listed_types, result_types}
+use Rattle.mlir_ir.specs.Values.{arg_values}
 use Rattle.mlir_ir.specs.View.{view_items}
 use Rattle.mlir_ir.specs.declared.terminal.Terminal.TheVariants as ts
 use Rattle.mlir_ir.specs.declared.syntax.Form.TheVariants as forms
@@ -20,13 +20,13 @@ use Rattle.mlir_ir.specs.declared.types.Func.{Func}
 use Rattle.mlir_ir.specs.declared.types.IrType.{IrType}
 use Rattle.round_trip.specs.CanonicalPieces.{params_piece, types_piece}
 use Rattle.round_trip.specs.Flat.{other_label}
-use Rattle.round_trip.specs.Readable.{Reading, ReadableBody, HasTypes, FreeArgs, all_ops, scope_after}
+use Rattle.round_trip.specs.Readable.{Reading, ReadableBody, HasTypes, all_ops, scope_after}
 use Rattle.round_trip.specs.Sound.{Each, IsType}
-use Rattle.round_trip.proofs.FitItems.{OpSized, CallsKeep, items_sized, items_keep, all_count, body_items_fit}
+use Rattle.round_trip.proofs.FitItems.{items_sized, items_keep, all_count, body_items_fit}
 use Rattle.round_trip.proofs.FitKinds.{CallFits}
 use Rattle.round_trip.proofs.FitOperations.{length_both}
 use Rattle.round_trip.proofs.FitPacks.{args_fine, over_fine, fine_over}
-use Rattle.round_trip.proofs.ReadFunctions.{func_phrase, body_parts, returning, returning_none, items_inside, arrow_inside_params, arrow_inside_types, def_args, def_results, def_bodies, decl_bodies}
+use Rattle.round_trip.proofs.ReadFunctions.{func_phrase, body_parts, returning, returning_none, items_inside, arrow_inside_params, def_args, def_results, def_bodies, decl_bodies}
 use Rattle.round_trip.proofs.ReadLists.{args_read}
 use Rattle.round_trip.proofs.SeenLists.{EndsSeen, ends_seen, ends_fine}
 use Rattle.round_trip.proofs.SeenUses.{bare, Alike, args_alike}

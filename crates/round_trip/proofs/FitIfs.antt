@@ -89,11 +89,11 @@ module _ (funcs : List Line) (loops : ℕ) (s scope : List Value) (naming : Nami
       let fits = arm depth a b d e ends in
       let fits2 = arm2 depth a2 b2 d2 e2 ends2 in
       record {
-    uses = each_uses s k truth (seen_in i u ∷ []) (sees, tt);
-    inside = if_sum at at2 depth k a b d e a2 b2 d2 e2 (seen_in i u) [] [] n row ends n2 row2 ends2 sees is refl fits gives fits2 gives2;
-    ops = λ q. fits.ops q + fits2.ops q;
-    labels = both_labels (block_labels (block (braces naming depth a b d e row ends))) (block_labels (block (braces naming depth a2 b2 d2 e2 row2 ends2))) _ _ fits.labels fits2.labels;
-  }
+        uses = each_uses s k truth (seen_in i u ∷ []) (sees, tt);
+        inside = if_sum at at2 depth k a b d e a2 b2 d2 e2 (seen_in i u) [] [] n row ends n2 row2 ends2 sees is refl fits gives fits2 gives2;
+        ops = λ q. fits.ops q + fits2.ops q;
+        labels = both_labels (block_labels (block (braces naming depth a b d e row ends))) (block_labels (block (braces naming depth a2 b2 d2 e2 row2 ends2))) _ _ fits.labels fits2.labels;
+      }
   if_both_fits at at2 depth k i x y z w a b d e a2 b2 d2 e2 u c (ty ∷ more) n row ends n2 row2 ends2 sees is arm gives arm2 gives2 =
       let fits = arm depth a b d e ends in
       let fits2 = arm2 depth a2 b2 d2 e2 ends2 in

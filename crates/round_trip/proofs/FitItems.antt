@@ -1,16 +1,16 @@
 -- The operations of a body, which are items of their own in the text, break no rule but limits.
-use Rattle.std.proofs.Common.{◌≡◌, ℕ, ◌+◌, ◌≤◌, false, nat_lt, max, List, [], ◌∷◌, ◌++◌, refl, ap, ◌∙◌, sym, length, arith, append_assoc}
+use Rattle.std.proofs.Common.{◌≡◌, ℕ, ◌+◌, ◌≤◌, false, nat_lt, List, [], ◌∷◌, ◌++◌, refl, ap, ◌∙◌, sym, length, arith, append_assoc}
 use Rattle.std.proofs.lemmas.Bool.Decides.{nat_tests}
 use Rattle.arith_word.specs.Labels.{label_at}
 use Rattle.mlir_ir.specs.Calls.{Called, kind_calls, ops_calls, items_calls}
 use Rattle.mlir_ir.specs.Canonical.{Naming}
 use Rattle.mlir_ir.specs.Labels.{kind_labels}
-use Rattle.mlir_ir.specs.Limits.{result_limit, label_limit, loop_limit}
-use Rattle.mlir_ir.specs.Operations.{count_of, inner_count, inner_labels, labels_of}
+use Rattle.mlir_ir.specs.Limits.{label_limit, loop_limit}
+use Rattle.mlir_ir.specs.Operations.{count_of, inner_labels, labels_of}
 use Rattle.mlir_ir.specs.Phrases.{Phrase, Line}
-use Rattle.mlir_ir.specs.ScopeFaults.{broken, block_breaks, op_tokens, item_tokens, block_labels, wide_items, defined_by}
+use Rattle.mlir_ir.specs.ScopeFaults.{block_breaks, op_tokens, item_tokens, block_labels, wide_items, defined_by}
 use Rattle.mlir_ir.specs.Sized.{SizedOp, SizedOps, SizedRegions, SizedItems, loop_depth, inner_loops, items_count}
-use Rattle.mlir_ir.specs.Source.{Block, none, op, block}
+use Rattle.mlir_ir.specs.Source.{Block, none, block}
 use Rattle.mlir_ir.specs.Values.{Value, result_values}
 use Rattle.mlir_ir.specs.View.{view_kind, view_ops, view_items}
 use Rattle.mlir_ir.specs.declared.scope_kind.ScopeKind.TheVariants.{Limit}
@@ -21,7 +21,7 @@ use Rattle.round_trip.specs.PiecePhrases.{said}
 use Rattle.round_trip.specs.Readable.{Reading, ReadableOps, scope_after, all_ops}
 use Rattle.round_trip.specs.Sound.{Each}
 use Rattle.round_trip.proofs.FitKinds.{CallFits}
-use Rattle.round_trip.proofs.FitOperations.{OpFits, op_fits, kind_fits}
+use Rattle.round_trip.proofs.FitOperations.{op_fits, kind_fits}
 use Rattle.round_trip.proofs.ReadBlocks.{op_block, block_whole}
 use Rattle.round_trip.proofs.ReadItems.{OpsSaid, append_nil, items_said}
 use Rattle.round_trip.proofs.ReadOperations.{kind_reads}

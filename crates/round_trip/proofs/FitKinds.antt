@@ -1,6 +1,5 @@
 -- Operations that are read back, by their kinds, break no rule where their regions break none.
-use Rattle.std.proofs.Common.{◌≡◌, ℕ, ◌+◌, ◌^◌, ◌<◌, ◌≤◌, ◌==◌, Bool, true, false, List, [], ◌∷◌, ◌++◌, refl, ap, ◌∙◌, sym, subst, codes, map, length, find, Some, slice_index_or, if◌then◌else◌, arith}
-use Rattle.std.proofs.lemmas.Bool.Decides.{nat_tests}
+use Rattle.std.proofs.Common.{◌≡◌, ℕ, ◌+◌, ◌≤◌, ◌==◌, Bool, true, false, List, [], ◌∷◌, ◌++◌, refl, ap, ◌∙◌, sym, subst, codes, map, length, find, Some, slice_index_or, if◌then◌else◌, arith}
 use Rattle.std.proofs.lemmas.List.{length-map}
 use Rattle.std.specs.Str.{bytes_eq}
 use Rattle.arith_word.specs.declared.label.Label.{Label}
@@ -12,12 +11,12 @@ use Rattle.mlir_ir.specs.Limits.{arg_limit, carried_limit, loop_limit}
 use Rattle.mlir_ir.specs.Operations as plain
 use Rattle.mlir_ir.specs.Phrases.{Phrase, Line, done, token, spots, first_spot}
 use Rattle.mlir_ir.specs.Resolved.{tys, func_name, func_args}
-use Rattle.mlir_ir.specs.Rules.{may_wrap, may_lose, casts, truth, arg_types}
+use Rattle.mlir_ir.specs.Rules.{may_wrap, may_lose, truth}
 use Rattle.mlir_ir.specs.ScopeFaults.{defined_by}
-use Rattle.mlir_ir.specs.Source.{Block, none, unsigned, block, region, region_behind, result_types, listed_uses, listed_types}
+use Rattle.mlir_ir.specs.Source.{none, unsigned, region, region_behind, result_types, listed_uses, listed_types}
 use Rattle.mlir_ir.specs.Values.{Value, arg_values, type_at}
 use Rattle.mlir_ir.specs.View.{view_row, view_kind}
-use Rattle.mlir_ir.specs.Words.{bin_text, cast_text, bits_of}
+use Rattle.mlir_ir.specs.Words.{bin_text, cast_text}
 use Rattle.mlir_ir.specs.declared.terminal.Terminal.TheVariants as ts
 use Rattle.mlir_ir.specs.declared.types.Arg.{Arg}
 use Rattle.mlir_ir.specs.declared.types.Flags.{Flags}
@@ -27,10 +26,9 @@ use Rattle.mlir_ir.specs.declared.types.Region.{Region', Row_of-Op}
 use Rattle.mlir_ir.specs.declared.types.Kind.{Kind, Const, Bin, Cast, Cmp, Select, Call, If', For, While, None', Some'}
 use Rattle.mlir_ir.specs.declared.types.ForParts.{ForParts'}
 use Rattle.mlir_ir.specs.declared.types.WhileParts.{WhileParts'}
-use Rattle.round_trip.specs.CanonicalPieces.{kind_piece, row_piece, truth_piece, number_piece, uses_piece, used_types_piece, bracketed_piece, results_piece}
+use Rattle.round_trip.specs.CanonicalPieces.{kind_piece, row_piece, truth_piece, number_piece, uses_piece, used_types_piece, results_piece}
 use Rattle.round_trip.specs.Flat.{other_label}
 use Rattle.round_trip.specs.PiecePhrases.{said}
-use Rattle.round_trip.specs.ReadUses.{ReadsAs}
 use Rattle.round_trip.specs.Readable.{Reading, ReadsLabel, ReadsLabels, ReadableKind, TypesAre, GivesType}
 use Rattle.round_trip.specs.Sound.{Each, IsType}
 use Rattle.round_trip.proofs.CanonicalTrees.{bin_terminal, cast_terminal, pred_terminal}
@@ -38,7 +36,6 @@ use Rattle.round_trip.proofs.FitFors.{for_fits}
 use Rattle.round_trip.proofs.FitIfs.{BlockFits, ArmFits, GivesOn, if_alone_fits, if_both_fits}
 use Rattle.round_trip.proofs.FitSimple.{PhraseFits, seen_in, bin_fits, compare_fits, select_fits, cast_fits, numbered_fits, truth_fits, call_fits}
 use Rattle.round_trip.proofs.FitWhiles.{while_fits}
-use Rattle.round_trip.proofs.ReadIfs.{braces}
 use Rattle.round_trip.proofs.ReadKinds.{call_types}
 use Rattle.round_trip.proofs.ReadLists.{type_is}
 use Rattle.round_trip.proofs.ReadUses.{value_parts}

@@ -1,39 +1,25 @@
 -- The lines of a module's functions: calls find their callees, names differ, and limits are those of the flat module.
-use Rattle.std.proofs.Common.{suc, zero, ◌≡◌, ℕ, ◌+◌, ◌≤◌, ◌<◌, ◌||◌, Bool, true, false, List, [], ◌∷◌, ◌++◌, refl, ap, ◌∙◌, sym, subst, map, length, find, arith, Option, None, Some, slice_get, slice_index_or, sum, fold, if◌then◌else◌}
-use Rattle.std.proofs.lemmas.List.{length-map}
-use Rattle.std.specs.List.{flat_map}
-use Rattle.std.specs.Option.{option_map}
+use Rattle.std.proofs.Common.{suc, zero, ◌≡◌, ℕ, ◌+◌, ◌||◌, Bool, true, false, List, [], ◌∷◌, refl, ap, ◌∙◌, sym, subst, map, length, find, arith, Option, None, Some, slice_get, slice_index_or, if◌then◌else◌}
 use Rattle.std.specs.Str.{bytes_eq}
 use Rattle.arith_word.specs.declared.label.Label.{Label}
-use Rattle.mlir_ir.specs.Calls.{Called, AreNamedApart, FitsCallee, DoCallsFit, func_calls, body_calls}
-use Rattle.mlir_ir.specs.Canonical.{naming_of}
-use Rattle.mlir_ir.specs.Check.{IsWellFormed}
-use Rattle.mlir_ir.specs.Limits.{func_limit, module_op_limit, item_limit, arg_limit, result_limit}
-use Rattle.mlir_ir.specs.Phrases.{Phrase, Line, done, line, lines}
-use Rattle.mlir_ir.specs.Reads.{plain_body, plain_func}
-use Rattle.mlir_ir.specs.Resolved.{PlainBody, PlainFunc, func_name, func_args, tys}
-use Rattle.mlir_ir.specs.ScopeFaults.{over, repeated, is_defined, func_names, func_breaks, func_op_tokens}
-use Rattle.mlir_ir.specs.Source.{Defined, result_types}
+use Rattle.mlir_ir.specs.Calls.{Called, AreNamedApart, FitsCallee}
+use Rattle.mlir_ir.specs.Phrases.{Phrase, Line, done, lines}
+use Rattle.mlir_ir.specs.Resolved.{PlainFunc, func_name, func_args, tys}
+use Rattle.mlir_ir.specs.ScopeFaults.{repeated, is_defined, func_names}
+use Rattle.mlir_ir.specs.Source.{result_types}
 use Rattle.mlir_ir.specs.Values.{Value, type_at, func_values}
-use Rattle.mlir_ir.specs.WellFormed.{IsSized, IsSizedBody}
 use Rattle.mlir_ir.specs.declared.syntax.Form.TheVariants as forms
 use Rattle.mlir_ir.specs.declared.types.Arg.{Arg}
 use Rattle.mlir_ir.specs.declared.types.Body.{Body}
 use Rattle.mlir_ir.specs.declared.types.Func.{Func}
 use Rattle.mlir_ir.specs.declared.types.IrType.{IrType}
-use Rattle.mlir_ir.proofs.SizedFunctions.{well_formed}
-use Rattle.round_trip.specs.CanonicalPieces.{body_piece, func_piece, funcs_piece}
-use Rattle.round_trip.specs.Flat.{flat, flat_func, flat_label, moved}
-use Rattle.round_trip.specs.KeepsLimits.{KeepsLimits, func_ops, func_items}
+use Rattle.round_trip.specs.CanonicalPieces.{func_piece, funcs_piece}
 use Rattle.round_trip.specs.PiecePhrases.{said}
 use Rattle.round_trip.specs.Pieces.{terminals}
-use Rattle.round_trip.specs.Readable.{Reading, HasTypes, ReadableBody, ReadableFuncs}
-use Rattle.round_trip.specs.Sound.{Each, IsType}
-use Rattle.round_trip.proofs.FitFunctions.{FuncFits, def_fits, decl_fits, no_parts}
+use Rattle.round_trip.specs.Readable.{Reading, HasTypes, ReadableFuncs}
+use Rattle.round_trip.specs.Sound.{Each}
 use Rattle.round_trip.proofs.FitKinds.{CallFits}
-use Rattle.round_trip.proofs.FitOperations.{length_both}
 use Rattle.round_trip.proofs.FitPacks.{Apart, apart_fine}
-use Rattle.round_trip.proofs.FlatCounts.{flat_items_long, flat_items_count}
 use Rattle.round_trip.proofs.HeldScopes.{same_bytes, turn_bytes}
 use Rattle.round_trip.proofs.ReadModules.{FuncRead, flat_of_body, func_said, types_each}
 use Rattle.round_trip.proofs.ReadableModules.{func_at, bytes_true, never}
@@ -104,8 +90,7 @@ names_apart names [] [] h apart u = tt
 names_apart names [] (l ∷ ls) h apart u = absurd h
 names_apart names (f ∷ fs) [] h apart u = absurd h
 names_apart names (f ∷ fs) (l ∷ ls) h apart u =
-    let later : Unused (f.name ∷ names) fs = λ k g e. (let other = turn_bytes g.name f.name ∙ other_name f fs k g apart e in let more = u (suc k) g e in λ t. other t || more t) in
-    (
+    let later : Unused (f.name ∷ names) fs = λ k g e. (let other = turn_bytes g.name f.name ∙ other_name f fs k g apart e in let more = u (suc k) g e in λ t. other t || more t) in (
       ap (λ (name : List ℕ). is_defined name names) h.0.name ∙ u 0 f refl,
       subst (λ (name : List ℕ). Apart (name ∷ names) (func_names ls)) (sym h.0.name) (names_apart (f.name ∷ names) fs ls h.1 (apart_later f fs apart) later),
     )

@@ -1,7 +1,6 @@
 -- Rows of operations that are read back break no rule, within the limits of lists, loops and results.
-use Rattle.std.proofs.Common.{◌≡◌, ℕ, ◌+◌, ◌≤◌, max, List, [], ◌∷◌, ◌++◌, refl, ap, ◌∙◌, sym, subst, map, length, arith}
-use Rattle.arith_word.specs.declared.label.Label.{Label}
-use Rattle.mlir_ir.specs.Calls.{Called, row_calls, kind_calls}
+use Rattle.std.proofs.Common.{◌≡◌, ℕ, ◌+◌, ◌≤◌, List, [], ◌∷◌, ◌++◌, refl, ap, ◌∙◌, sym, subst, map, length, arith}
+use Rattle.mlir_ir.specs.Calls.{row_calls, kind_calls}
 use Rattle.mlir_ir.specs.Canonical.{Naming}
 use Rattle.mlir_ir.specs.Check.{row_results}
 use Rattle.mlir_ir.specs.Labels.{kind_labels, row_labels}
@@ -9,7 +8,7 @@ use Rattle.mlir_ir.specs.Limits.{arg_limit, result_limit, loop_limit}
 use Rattle.mlir_ir.specs.Operations.{OpKind, inner_count, inner_labels}
 use Rattle.mlir_ir.specs.Phrases.{Phrase, Line, done, line, lines}
 use Rattle.mlir_ir.specs.Resolved.{tys, packs_of}
-use Rattle.mlir_ir.specs.ScopeFaults.{block_breaks, packs_breaks, op_tokens, block_labels, header_labels, defined_by, total}
+use Rattle.mlir_ir.specs.ScopeFaults.{block_breaks, packs_breaks, op_tokens, block_labels, defined_by}
 use Rattle.mlir_ir.specs.Sized.{SizedOps, SizedRegions, loop_depth, inner_loops, passed_count}
 use Rattle.mlir_ir.specs.Source.{Block, Packed, none, block, region, region_behind, packed, head, word, op_types}
 use Rattle.mlir_ir.specs.Values.{Value, arg_values, result_values}
@@ -21,7 +20,7 @@ use Rattle.mlir_ir.specs.declared.types.Region.{Region', Row_of-Op, end_of-Op, m
 use Rattle.mlir_ir.specs.declared.types.Kind.{Kind, Const, Bin, Cast, Cmp, Select, Call, If', For, While, None', Some'}
 use Rattle.mlir_ir.specs.declared.types.ForParts.{ForParts'}
 use Rattle.mlir_ir.specs.declared.types.WhileParts.{WhileParts'}
-use Rattle.round_trip.specs.CanonicalPieces.{kind_piece, row_piece, packs_piece, whole_piece}
+use Rattle.round_trip.specs.CanonicalPieces.{kind_piece, row_piece, packs_piece}
 use Rattle.round_trip.specs.PiecePhrases.{said}
 use Rattle.round_trip.specs.Pieces.{Piece}
 use Rattle.round_trip.specs.Readable.{Reading, ReadsPack, ReadableKind, ReadableRow, PacksFit}

@@ -7,7 +7,7 @@ use Rattle.mlir_ir.specs.Limits.{result_limit}
 use Rattle.mlir_ir.specs.Names.{is_name}
 use Rattle.mlir_ir.specs.Resolved.{packs_of}
 use Rattle.mlir_ir.specs.Rules.{has_name, is_free, are_free, packs_hold}
-use Rattle.mlir_ir.specs.ScopeFaults.{Break, broken, over, is_defined, repeated, names_of, total, many_results, packs_breaks}
+use Rattle.mlir_ir.specs.ScopeFaults.{over, is_defined, repeated, names_of, total, many_results, packs_breaks}
 use Rattle.mlir_ir.specs.Source.{Defined, Packed}
 use Rattle.mlir_ir.specs.Values.{Value, arg_values}
 use Rattle.mlir_ir.specs.declared.scope_kind.ScopeKind.TheVariants.{Twice, Limit, Arity}
@@ -16,7 +16,7 @@ use Rattle.round_trip.specs.Readable.{FreeArgs, PacksFit}
 use Rattle.round_trip.specs.Sound.{Each}
 use Rattle.round_trip.proofs.FreeNames.{SameNames, names_both}
 use Rattle.round_trip.proofs.HeldScopes.{turn_bytes, not_held}
-use Rattle.round_trip.proofs.SeenUses.{no_break, same_count}
+use Rattle.round_trip.proofs.SeenUses.{no_break}
 use Rattle.round_trip.proofs.Tests.{and_parts}
 
 or_false : (a b : Bool) → (a || b) ≡ false → (a ≡ false) × (b ≡ false)
@@ -148,4 +148,3 @@ fine_over (suc limit) (t ∷ tokens) h = let more = fine_over limit tokens h in 
 
 pub over_fine : (limit : ℕ) (tokens : List ℕ) → length tokens ≤ limit → over limit tokens ≡ []
 over_fine limit tokens h = ap (λ (xs : List ℕ). map (λ (at : ℕ). record { at = at; kind = Limit }) (take 1 xs)) (none_left limit tokens h)
-

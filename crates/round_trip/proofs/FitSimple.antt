@@ -1,5 +1,5 @@
 -- Operations without regions, whose operands are seen in scope with their types, break no rule.
-use Rattle.std.proofs.Common.{suc, zero, ◌≡◌, ℕ, ℤ, pos, negsuc, ◌+◌, ◌-◌, ◌^◌, ◌<◌, ◌≤◌, ◌==◌, ◌&&◌, not, nat_lt, nat_le, Bool, true, false, List, [], ◌∷◌, ◌++◌, refl, ap, ◌∙◌, sym, codes, map, find, length, drop, if◌then◌else◌, arith, Option, Some, inl, inr, ◌*◌, ◌||◌, eq-eqb}
+use Rattle.std.proofs.Common.{suc, zero, ◌≡◌, ℕ, ℤ, pos, negsuc, ◌+◌, ◌-◌, ◌^◌, ◌<◌, ◌≤◌, ◌==◌, ◌&&◌, not, nat_lt, nat_le, Bool, true, false, List, [], ◌∷◌, ◌++◌, refl, ap, ◌∙◌, codes, map, find, length, if◌then◌else◌, arith, Some, inl, inr, ◌*◌, ◌||◌, eq-eqb}
 use Rattle.std.proofs.Common.{lt-ltb, le-ltb}
 use Rattle.std.proofs.lemmas.Bool.{cases_lt}
 use Rattle.std.proofs.lemmas.Bool.Decides.{nat_tests}
@@ -17,8 +17,8 @@ use Rattle.mlir_ir.specs.Operations.{OpKind, inner_labels, inner_count}
 use Rattle.mlir_ir.specs.Phrases.{Phrase, Line, done, token, line, spots, first_spot}
 use Rattle.mlir_ir.specs.Resolved.{tys, cast_named, func_name, func_args}
 use Rattle.mlir_ir.specs.Rules.{casts, truth}
-use Rattle.mlir_ir.specs.ScopeFaults.{broken, is_index, is_too_wide, literal_breaks, same_written, kind_breaks, block_breaks, uses_breaks, operands, op_tokens, block_labels, header_labels, over, call_types, written_breaks, callee_breaks, listed_breaks}
-use Rattle.mlir_ir.specs.Source.{Use, Written, none, head, word, region, region_behind, use_of, written, unsigned, listed_uses, listed_types, result_types, types_in}
+use Rattle.mlir_ir.specs.ScopeFaults.{broken, is_index, same_written, kind_breaks, block_breaks, uses_breaks, operands, op_tokens, block_labels, header_labels, call_types, callee_breaks, listed_breaks}
+use Rattle.mlir_ir.specs.Source.{Use, Written, none, head, word, region, region_behind, use_of, written, unsigned, listed_uses, listed_types, result_types}
 use Rattle.mlir_ir.specs.Values.{Value}
 use Rattle.mlir_ir.specs.Words.{bits_of}
 use Rattle.mlir_ir.specs.declared.scope_kind.ScopeKind.TheVariants.{WrongType, Arity, Unknown}
@@ -35,9 +35,9 @@ use Rattle.round_trip.proofs.PartedPieces.{IsSmall, reading_small}
 use Rattle.round_trip.proofs.ReadLists.{type_is}
 use Rattle.round_trip.proofs.ReadSimple.{bits_some}
 use Rattle.round_trip.proofs.ReadUses.{type_parts}
-use Rattle.round_trip.proofs.SeenUses.{Sees, SeesAll, no_break, uses_fine, types_fine, listed_fine, written_fine, each_uses, same_fine, uses_long, same_count}
-use Rattle.round_trip.proofs.StandingPieces.{number_is, type_word}
-use Rattle.round_trip.proofs.WrittenWords.{decimal_back, type_back}
+use Rattle.round_trip.proofs.SeenUses.{Sees, SeesAll, no_break, uses_fine, types_fine, listed_fine, written_fine, each_uses, same_fine, uses_long}
+use Rattle.round_trip.proofs.StandingPieces.{number_is}
+use Rattle.round_trip.proofs.WrittenWords.{decimal_back}
 
 -- the phrase of an operation breaks no rule, and has as many operations and labels inside as the operation
 pub record PhraseFits (funcs : List Line) (loops : ℕ) (s : List Value) (kind : OpKind) (p : Phrase) : Type 0 where

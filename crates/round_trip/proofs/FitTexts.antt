@@ -1,19 +1,17 @@
 -- The phrase of a canonical text breaks no rule on names, types, lengths and calls, and a limit exactly where the flat module does.
-use Rattle.std.proofs.Common.{suc, ◌≡◌, ℕ, ◌+◌, ◌≤◌, List, [], ◌∷◌, ◌++◌, refl, ap, ◌∙◌, sym, subst, map, length, arith, Option, None, Some, slice_get, sum, fold}
+use Rattle.std.proofs.Common.{◌≡◌, ℕ, ◌+◌, ◌≤◌, List, [], ◌∷◌, ◌++◌, refl, ap, sym, subst, map, length, arith, Option, None, Some, sum, fold}
 use Rattle.std.proofs.lemmas.List.{length-map}
 use Rattle.std.specs.List.{flat_map}
 use Rattle.std.specs.Option.{option_map}
-use Rattle.mlir_ir.specs.Calls.{Called, AreNamedApart, FitsCallee, DoCallsFit, func_calls, body_calls, items_calls}
+use Rattle.mlir_ir.specs.Calls.{AreNamedApart, func_calls, body_calls, items_calls}
 use Rattle.mlir_ir.specs.Canonical.{naming_of}
 use Rattle.mlir_ir.specs.Check.{IsWellFormed}
 use Rattle.mlir_ir.specs.Limits.{func_limit, module_op_limit, item_limit, arg_limit, result_limit}
 use Rattle.mlir_ir.specs.Phrases.{Phrase, Line, done, line, lines}
 use Rattle.mlir_ir.specs.Reads.{plain_body, plain_func}
-use Rattle.mlir_ir.specs.Resolved.{PlainBody, PlainFunc, func_args, tys}
+use Rattle.mlir_ir.specs.Resolved.{PlainFunc, func_args}
 use Rattle.mlir_ir.specs.ScopeFaults.{long_names, over, repeated, func_names, func_breaks, func_op_tokens, text_breaks}
-use Rattle.mlir_ir.specs.Source.{result_types}
 use Rattle.mlir_ir.specs.Sized.{SizedBody}
-use Rattle.mlir_ir.specs.Values.{func_values}
 use Rattle.mlir_ir.specs.View.{view_items}
 use Rattle.mlir_ir.specs.WellFormed.{IsSized, IsSizedBody}
 use Rattle.mlir_ir.specs.declared.syntax.Form.TheVariants as forms
@@ -21,7 +19,6 @@ use Rattle.mlir_ir.specs.declared.token.Token.{Token}
 use Rattle.mlir_ir.specs.declared.types.Arg.{Arg}
 use Rattle.mlir_ir.specs.declared.types.Body.{Body}
 use Rattle.mlir_ir.specs.declared.types.Func.{Func}
-use Rattle.mlir_ir.specs.declared.types.IrType.{IrType}
 use Rattle.mlir_ir.proofs.SizedFunctions.{well_formed}
 use Rattle.round_trip.specs.CanonicalPieces.{params_piece, types_piece, body_piece, func_piece, funcs_piece, module_piece}
 use Rattle.round_trip.specs.Flat.{flat, flat_func, flat_label, moved}

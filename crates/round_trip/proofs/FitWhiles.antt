@@ -1,5 +1,5 @@
 -- An `scf.while` whose regions break no rule breaks none.
-use Rattle.std.proofs.Common.{◌≡◌, ℕ, ◌+◌, ◌≤◌, ◌==◌, not, false, nat_le, List, [], ◌∷◌, ◌++◌, refl, ap, ◌∙◌, sym, subst, codes, map, length, arith}
+use Rattle.std.proofs.Common.{◌≡◌, ℕ, ◌+◌, ◌≤◌, nat_le, List, [], ◌∷◌, ◌++◌, refl, ap, ◌∙◌, sym, subst, codes, map, length, arith}
 use Rattle.std.proofs.lemmas.List.{length-map}
 use Rattle.arith_word.specs.declared.label.Label.{Label}
 use Rattle.mlir_ir.specs.Canonical.{Naming}
@@ -7,14 +7,14 @@ use Rattle.mlir_ir.specs.Check.{row_results}
 use Rattle.mlir_ir.specs.Limits.{arg_limit, carried_limit, loop_limit}
 use Rattle.mlir_ir.specs.Operations as plain
 use Rattle.mlir_ir.specs.Operations.{count_of, labels_of}
-use Rattle.mlir_ir.specs.Phrases.{Phrase, Line, done, token, line, lines, inside, until, behind, spots, first_spot}
+use Rattle.mlir_ir.specs.Phrases.{Phrase, Line, done, token, lines, inside, until, behind, spots, first_spot}
 use Rattle.mlir_ir.specs.Resolved.{tys, carried, inits_used, args_of}
 use Rattle.mlir_ir.specs.Rules.{arg_types, truth}
-use Rattle.mlir_ir.specs.ScopeFaults.{Break, broken, uses_breaks, type_breaks, written_breaks, ending_breaks, block_breaks, listed_breaks, names_of, repeated, over, op_tokens, block_labels, defined_by, params_breaks}
-use Rattle.mlir_ir.specs.Source.{Block, Defined, Written, Use, Ending, none, use_of, region, region_behind, inits_of, result_types, listed_uses, listed_types, params_in}
+use Rattle.mlir_ir.specs.ScopeFaults.{Break, broken, uses_breaks, type_breaks, ending_breaks, block_breaks, listed_breaks, names_of, repeated, over, op_tokens, block_labels, defined_by, params_breaks}
+use Rattle.mlir_ir.specs.Source.{Block, Defined, Written, Use, Ending, use_of, region, region_behind, inits_of, listed_uses, listed_types, params_in}
 use Rattle.mlir_ir.specs.Values.{Value, arg_values}
 use Rattle.mlir_ir.specs.View.{view_row}
-use Rattle.mlir_ir.specs.declared.scope_kind.ScopeKind.TheVariants.{Limit, Arity}
+use Rattle.mlir_ir.specs.declared.scope_kind.ScopeKind.TheVariants.{Limit}
 use Rattle.mlir_ir.specs.declared.terminal.Terminal.TheVariants as ts
 use Rattle.mlir_ir.specs.declared.syntax.Form.TheVariants as forms
 use Rattle.mlir_ir.specs.declared.types.Arg.{Arg}
@@ -31,9 +31,9 @@ use Rattle.round_trip.proofs.FitFors.{inits_count, limits_fine}
 use Rattle.round_trip.proofs.FitPacks.{args_fine, over_fine}
 use Rattle.round_trip.proofs.FitSimple.{PhraseFits, seen_in}
 use Rattle.round_trip.proofs.ReadRows.{row_inside, row_lines, row_until, row_behind, row_behind_word}
-use Rattle.round_trip.proofs.ReadWhiles.{turn_end, turn, condition, opening, turn_lacks, condition_inside, condition_behind, condition_word, condition_none, condition_until, turn_end_none, opening_region, opening_word, opening_behind, opening_until, opening_uses, opening_results, opening_types, opening_inits, turn_region, turn_params, arg_each}
+use Rattle.round_trip.proofs.ReadWhiles.{turn_end, turn, condition, opening, turn_lacks, condition_inside, condition_behind, condition_word, condition_until, opening_region, opening_word, opening_behind, opening_until, opening_uses, opening_results, opening_types, opening_inits, turn_region, turn_params, arg_each}
 use Rattle.round_trip.proofs.SeenLists.{Typed, InitsSeen, inits_seen, EndsSeen, ends_seen}
-use Rattle.round_trip.proofs.SeenUses.{Sees, SeesAll, Alike, alike_more, args_alike, same_names, uses_fine, types_fine, listed_fine, written_fine, same_count, ending_fine}
+use Rattle.round_trip.proofs.SeenUses.{Sees, Alike, alike_more, args_alike, same_names, uses_fine, types_fine, listed_fine, written_fine, same_count, ending_fine}
 
 -- parameters
 

@@ -41,7 +41,7 @@ free_args n wanted scope at (arg ∷ args) h s e =
     let t = and_parts ((is_free scope arg.name) || false) (same_types (arg.ty ∷ []) wanted) (none_at at.last (arg_rules false n wanted scope arg) b.0).1 in (
       e arg.name ∙ free_of (is_name arg.name) (has_name scope arg.name) t.0,
       free_args (n + 1) (drop 1 wanted) (scope ++ arg_values at.next (arg ∷ [])) (past 1 0 at) args b.1 (s ++ arg_values 0 (arg ∷ []))
-      (same_more s scope (arg_values 0 (arg ∷ [])) (arg_values at.next (arg ∷ [])) e (λ name. refl)),
+          (same_more s scope (arg_values 0 (arg ∷ [])) (arg_values at.next (arg ∷ [])) e (λ name. refl)),
     )
 
 pub free_packs : (s t : List Value) (packs : List Pack) → SameNames s t → are_free s packs ≡ are_free t packs

@@ -1,5 +1,5 @@
 -- The types of the values that operations use, and the lengths of what regions give on.
-use Rattle.std.proofs.Common.{suc, ◌≡◌, ℕ, ◌==◌, ◌&&◌, ◌||◌, Bool, true, false, List, [], ◌∷◌, length, refl, ap, ◌∙◌, sym, subst, map, arith, Option, Some, nat_lt, inl, inr, eq-eqb, if◌then◌else◌, ◌⊎◌}
+use Rattle.std.proofs.Common.{◌≡◌, ℕ, ◌==◌, ◌&&◌, ◌||◌, Bool, true, false, List, [], ◌∷◌, length, refl, ap, ◌∙◌, sym, subst, arith, Option, Some, nat_lt, inl, inr, eq-eqb, if◌then◌else◌, ◌⊎◌}
 use Rattle.std.proofs.lemmas.Bool.{ne_eqb}
 use Rattle.std.proofs.lemmas.Bool.Decides.{nat_tests}
 use Rattle.std.specs.List.{list_all}
@@ -31,7 +31,7 @@ knows values scope (v ∷ vs) l h e = elim (same_or v.label l.0) [
     there = ap (option_map (λ (w : Value). w.ty)) (subst (λ (x : ℕ). value_at values x ≡ Some v) q h.0.found);
   }
   | inr ne ↦ (let k = knows values scope vs l h.1 (rw (ne_eqb v.label l.0 ne) at e) in
-  record { ty = k.ty; here = ap (λ (c : Bool). option_map (λ (w : Value). w.ty) (if c then Some v else value_at vs l.0)) (ne_eqb v.label l.0 ne) ∙ k.here; there = k.there })
+      record { ty = k.ty; here = ap (λ (c : Bool). option_map (λ (w : Value). w.ty) (if c then Some v else value_at vs l.0)) (ne_eqb v.label l.0 ne) ∙ k.here; there = k.there })
 ]
 
 one_known : (values scope : List Value) (ty : IrType) (l : Label) → Knows values scope l → has_type scope ty l ≡ true → type_at values l.0 ≡ Some ty

@@ -47,6 +47,7 @@ mod FitModules
 mod ShortNames
 mod ShortTexts
 mod FitTexts
+mod TextLimits
 mod MovedLabels
 mod ReadableParts
 mod ReadableRows

@@ -1,5 +1,5 @@
 -- What the rules say of operations that are read back: types, packs and calls.
-use Rattle.std.proofs.Common.{◌≡◌, ℕ, ◌+◌, ◌<◌, ◌==◌, ◌&&◌, true, List, [], ◌∷◌, ◌++◌, length, refl, ap, ◌∙◌, subst, arith, map, take, drop, suc, ◌-◌, ◌^◌, ◌≤◌, nat_le, nat_lt, slice_index_or, length-drop}
+use Rattle.std.proofs.Common.{◌≡◌, ℕ, ◌+◌, ◌<◌, ◌&&◌, true, List, [], ◌∷◌, ◌++◌, length, refl, ap, ◌∙◌, subst, arith, map, take, drop, ◌-◌, ◌^◌, ◌≤◌, nat_le, nat_lt, slice_index_or, length-drop}
 use Rattle.std.proofs.lemmas.Bool.Decides.{nat_tests}
 use Rattle.std.specs.List.{list_all}
 use Rattle.arith_word.specs.declared.label.Label.{Label}
@@ -13,7 +13,7 @@ use Rattle.mlir_ir.specs.declared.types.IrType.{IrType}
 use Rattle.mlir_ir.specs.declared.types.Region.{Row_of-Op}
 use Rattle.mlir_ir.specs.declared.types.Kind.{Kind}
 use Rattle.mlir_ir.specs.Values.{Value, result_values}
-use Rattle.mlir_ir.specs.Rules.{is_in_scope, has_name, have_types, op_rules, gives_number, are_free, packs_hold, is_kind_typed, is_kind_counted, is_kind_sized, is_short}
+use Rattle.mlir_ir.specs.Rules.{is_in_scope, have_types, op_rules, gives_number, are_free, packs_hold, is_kind_typed, is_kind_counted, is_kind_sized, is_short}
 use Rattle.mlir_ir.specs.Limits.{result_limit, op_limit}
 use Rattle.mlir_ir.specs.Check.{breaks_at, row_results}
 use Rattle.mlir_ir.specs.Calls.{Called}

@@ -127,14 +127,14 @@ mutual
       → Kept scope nest results kind → Each (Held r.naming.values scope) scope → Each (Found r.naming.values) (kind_values p kind) → Each (Keeps r) (kind_calls results kind) → kind_breaks scope nest at results kind ≡ []
       → ReadableKind r (map (moved_value r.other) scope) to results kind
   kind_kept r scope nest at p to m e results (Const v) s sh k g f c h = literal_of v results s.0 k.typed
-  kind_kept r scope nest at p to m e results (Bin op flags a b) s sh k g f c h = 
+  kind_kept r scope nest at p to m e results (Bin op flags a b) s sh k g f c h =
       let u = labels_read r scope (a ∷ b ∷ []) g k.in_scope in
       let t = and_parts ((may_wrap op || not (has_flags flags)) && agree scope a b) (gives_type_of scope a results) k.typed in
       let t2 = and_parts (may_wrap op || not (has_flags flags)) (agree scope a b) t.0 in
       let i = in_scopes scope a b [] k.in_scope in
       let first = types_known r scope g results (a ∷ []) (one_in_scope scope a i.0) t.1 (sym (equal_lengths (length results) 1 k.counted)) in
       (s.0, s.3, u.0, u.1.0, first, sym (ap (λ (o : Option IrType). o ∷ []) (agree_known r scope g a b i.0 i.1 t2.1)) ∙ first)
-  kind_kept r scope nest at p to m e results (Cast op flags a) s sh k g f c h = 
+  kind_kept r scope nest at p to m e results (Cast op flags a) s sh k g f c h =
       let u = labels_read r scope (a ∷ []) g k.in_scope in
       let t = and_parts (may_lose op || not (has_flags flags)) (gives_cast scope op a results) k.typed in
       let i = and_parts (is_in_scope scope a) true k.in_scope in
@@ -144,7 +144,7 @@ mutual
       let t = and_parts (agree scope a b) (same_types (truth ∷ []) results) k.typed in
       let i = in_scopes scope a b [] k.in_scope in
       (truth_of results k.counted t.1, u.0, u.1.0, compare_known r scope g a b i.0 i.1 t.0 s.0)
-  kind_kept r scope nest at p to m e results (Select x a b) s sh k g f c h = 
+  kind_kept r scope nest at p to m e results (Select x a b) s sh k g f c h =
       let u = labels_read r scope (x ∷ a ∷ b ∷ []) g k.in_scope in
       let t = and_parts (has_type scope truth x && agree scope a b) (gives_type_of scope a results) k.typed in
       let t2 = and_parts (has_type scope truth x) (agree scope a b) t.0 in

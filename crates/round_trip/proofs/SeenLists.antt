@@ -1,5 +1,5 @@
 -- Lists of the canonical pieces whose uses are seen in scope with their types: operands, first values and terminators.
-use Rattle.std.proofs.Common.{◌≡◌, ℕ, Bool, true, false, List, [], ◌∷◌, ◌++◌, refl, ap, ◌∙◌, sym, subst, codes, map, nat_lt, arith, length, Some, Option, if◌then◌else◌}
+use Rattle.std.proofs.Common.{◌≡◌, ℕ, Bool, true, false, List, [], ◌∷◌, refl, ap, ◌∙◌, sym, subst, codes, map, nat_lt, arith, length, Some, if◌then◌else◌}
 use Rattle.std.specs.List.{zip}
 use Rattle.std.specs.Option.{option_map_or}
 use Rattle.arith_word.specs.declared.label.Label.{Label}
@@ -17,7 +17,7 @@ use Rattle.mlir_ir.specs.declared.syntax.Form.TheVariants as forms
 use Rattle.mlir_ir.specs.declared.types.Arg.{Arg}
 use Rattle.mlir_ir.specs.declared.types.IrType.{IrType}
 use Rattle.mlir_ir.specs.declared.types.Region.{Row_of-Op, end_of-Op, more_of-Op}
-use Rattle.round_trip.specs.CanonicalPieces.{type_piece, behind_commas_piece, joined_piece, use_piece, uses_piece, used_type_piece, used_types_piece, types_piece, init_piece, ends_piece, yield_piece, row_piece, kind_piece}
+use Rattle.round_trip.specs.CanonicalPieces.{type_piece, behind_commas_piece, joined_piece, use_piece, used_type_piece, used_types_piece, types_piece, init_piece, ends_piece, yield_piece, row_piece, kind_piece}
 use Rattle.round_trip.specs.PiecePhrases.{said}
 use Rattle.round_trip.specs.Pieces.{Piece, empty, branch}
 use Rattle.round_trip.specs.ReadUses.{ReadsAs}

@@ -6,7 +6,7 @@ use Rattle.arith_word.specs.declared.label.Label.{Label}
 use Rattle.mlir_ir.specs.Canonical.{Naming}
 use Rattle.mlir_ir.specs.Resolved.{is_of, used, tys}
 use Rattle.mlir_ir.specs.Rules.{has_name, same_type}
-use Rattle.mlir_ir.specs.ScopeFaults.{Break, broken, use_breaks, uses_breaks, differs, type_breaks, written_breaks, listed_breaks, ending_breaks, same_written}
+use Rattle.mlir_ir.specs.ScopeFaults.{broken, use_breaks, uses_breaks, differs, type_breaks, written_breaks, listed_breaks, ending_breaks, same_written}
 use Rattle.mlir_ir.specs.Source.{Use, Written, Ending, use_of}
 use Rattle.mlir_ir.specs.Values.{Value, value_at, type_at, arg_values, pack_values, result_values}
 use Rattle.mlir_ir.specs.declared.scope_kind.ScopeKind.{ScopeKind}

@@ -1,5 +1,5 @@
 -- The names in the canonical text of a well-formed function are short.
-use Rattle.std.proofs.Common.{◌≡◌, ℕ, ℤ, pos, negsuc, ◌+◌, ◌==◌, ◌&&◌, not, nat_lt, Bool, true, false, List, [], ◌∷◌, ◌++◌, refl, ap, ◌∙◌, sym, map, length, codes, find, arith, Option, None, Some, slice_index_or, if◌then◌else◌, zero, suc, subst}
+use Rattle.std.proofs.Common.{◌≡◌, ℕ, ℤ, pos, negsuc, ◌+◌, ◌==◌, ◌&&◌, not, nat_lt, Bool, true, false, List, [], ◌∷◌, ◌++◌, refl, ap, map, length, codes, find, arith, Option, None, Some, slice_index_or, if◌then◌else◌, zero, suc, subst}
 use Rattle.std.proofs.lemmas.Bool.Decides.{nat_tests}
 use Rattle.std.specs.Fmt.{decimal}
 use Rattle.std.specs.List.{list_all, zip}
@@ -9,7 +9,7 @@ use Rattle.arith_word.specs.declared.label.Label.{Label}
 use Rattle.mlir_ir.specs.Canonical.{Naming}
 use Rattle.mlir_ir.specs.Limits.{name_limit}
 use Rattle.mlir_ir.specs.Rules.{is_short}
-use Rattle.mlir_ir.specs.ScopeFaults.{broken, has_value_name, long_names}
+use Rattle.mlir_ir.specs.ScopeFaults.{has_value_name, long_names}
 use Rattle.mlir_ir.specs.Sized.{SizedOps, SizedRegions}
 use Rattle.mlir_ir.specs.Source.{unsigned}
 use Rattle.mlir_ir.specs.Values.{Value, value_at, type_at}

@@ -1,5 +1,5 @@
 -- The canonical text of a printable module has no long name.
-use Rattle.std.proofs.Common.{◌≡◌, ℕ, ◌+◌, ◌&&◌, Bool, true, false, List, [], ◌∷◌, ◌++◌, refl, ap, map, length, codes, Option, None, Some, if◌then◌else◌, take, drop}
+use Rattle.std.proofs.Common.{◌≡◌, ℕ, ◌+◌, ◌&&◌, Bool, true, false, List, [], ◌∷◌, ◌++◌, refl, map, length, codes, Option, None, Some, if◌then◌else◌}
 use Rattle.std.specs.List.{list_all}
 use Rattle.arith_word.specs.Labels.{label_at}
 use Rattle.mlir_ir.specs.Canonical.{Naming, naming_of}
@@ -11,7 +11,6 @@ use Rattle.mlir_ir.specs.Sized.{SizedOps, SizedRegions, SizedItems}
 use Rattle.mlir_ir.specs.Values.{Value, arg_values, result_values, row_values, kind_values, ops_values, op_values, items_values, body_values, func_values}
 use Rattle.mlir_ir.specs.View.{view_row, view_kind, view_ops, view_items}
 use Rattle.mlir_ir.specs.WellFormed.{IsSized, IsSizedBody}
-use Rattle.mlir_ir.specs.declared.token.TokenKind.TheVariants as kinds
 use Rattle.mlir_ir.specs.declared.types.Arg.{Arg}
 use Rattle.mlir_ir.specs.declared.types.Body.{Body}
 use Rattle.mlir_ir.specs.declared.types.Func.{Func}
@@ -23,8 +22,8 @@ use Rattle.mlir_ir.specs.declared.types.Kind.{Kind, Const, Bin, Cast, Cmp, Selec
 use Rattle.mlir_ir.specs.declared.types.ForParts.{ForParts'}
 use Rattle.mlir_ir.specs.declared.types.WhileParts.{WhileParts'}
 use Rattle.mlir_ir.proofs.SizedFunctions.{well_formed}
-use Rattle.round_trip.specs.CanonicalPieces.{private_piece, symbol_piece, ops_piece, items_piece, body_piece, func_piece, funcs_piece, module_piece, word, blank, kind_piece}
-use Rattle.round_trip.specs.Pieces.{empty, leaf, ◌<>◌, placed}
+use Rattle.round_trip.specs.CanonicalPieces.{ops_piece, items_piece, body_piece, funcs_piece, module_piece, word, blank}
+use Rattle.round_trip.specs.Pieces.{empty, ◌<>◌, placed}
 use Rattle.round_trip.specs.Sound.{Each}
 use Rattle.round_trip.specs.Widths.{IsPrintable}
 use Rattle.round_trip.proofs.HeldResults.{results_named}

@@ -62,14 +62,10 @@ pub fn canonical_functions()
         → funcs_of (phrase_in s) ≡ flat m.funcs }
 {}
 
-/// A canonical text reads as no module but those whose functions are the flat module's; and it
-/// reads as these where its syntax breaks no rule on limits, names, types and lengths.
+/// A canonical text reads as no module but those whose functions are the flat module's.
 pub fn canonical_readings()
-    ensures only { (m read : Module) → IsPrintable m.funcs → Reads (module_text m.funcs) read
+    ensures { (m read : Module) → IsPrintable m.funcs → Reads (module_text m.funcs) read
         → map plain_func read.funcs ≡ flat m.funcs }
-    ensures unbroken { (m read : Module) (s : Syntax) → IsPrintable m.funcs
-        → IsSyntaxOf (module_text m.funcs) s → text_breaks s.tokens (phrase_in s) ≡ []
-        → map plain_func read.funcs ≡ flat m.funcs → Reads (module_text m.funcs) read }
 {}
 
 /// The syntax of a canonical text breaks no rule exactly where the flat module keeps its limits;
