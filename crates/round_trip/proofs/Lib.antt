@@ -48,6 +48,8 @@ mod ShortNames
 mod ShortTexts
 mod FitTexts
 mod TextLimits
+mod TreeSizes
+mod BuiltSyntaxes
 mod MovedLabels
 mod ReadableParts
 mod ReadableRows

@@ -1,4 +1,5 @@
-ghost use Rattle.std.specs.Prelude.{◌≡◌, ◌↔◌, List, [], ◌∷◌, ◌≤◌, length, map, sum};
+ghost use Rattle.std.specs.Global.{Global};
+ghost use Rattle.std.specs.Prelude.{◌≡◌, ◌↔◌, ◌<◌, ◌≤◌, ◌^◌, List, [], ◌∷◌, length, map, sum};
 ghost use Rattle.mlir_ir.specs.Tokens.{AreTokens};
 ghost use Rattle.mlir_ir.specs.Terminals.{terminal_of};
 ghost use Rattle.mlir_ir.specs.Trees.{IsTreeOf};
@@ -53,6 +54,14 @@ pub fn canonical_syntax()
         → IsSyntaxOf (module_text fs) s ↔ IsCanonicalSyntax fs s }
     ensures no_fault { (fs : List Func) (e : ParseFault) → IsPrintable fs
         → IsRefused (module_text fs) e → e ≡ NoMemory }
+{}
+
+/// Where the canonical text has less than 2^32 bytes, which a syntax counts in 32 bits, it has a
+/// syntax: memory is all that parsing it needs.
+pub fn canonical_syntax_exists()
+    ensures { (alloc : Global) (fs : List Func) → IsPrintable fs
+        → length (module_text fs) < 2 ^ 32
+        → (s : Syntax) × IsSyntaxOf (module_text fs) s }
 {}
 
 /// The canonical text of a module of well-formed functions, whose types have 1 to 64 bits, stands
