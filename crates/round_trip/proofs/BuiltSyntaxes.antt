@@ -1,5 +1,5 @@
 -- The canonical syntax as a value of the program.
-use Rattle.std.proofs.Common.{◌≡◌, ℕ, ◌<◌, ◌^◌, List, [], ◌∷◌, refl, ap, sym, map, length, arith}
+use Rattle.std.proofs.Common.{◌≡◌, ◌<◌, ◌^◌, List, [], ◌∷◌, refl, ap, map, length, arith}
 use Rattle.std.specs.Global.{Global, Vec}
 use Rattle.std.proofs.lemmas.List.{length-map}
 use Rattle.mlir_ir.specs.Terminals.{terminal_of}
@@ -7,9 +7,8 @@ use denote.RawPtr.{null_ptr}
 use mathlib.Core.Former.{none_left, this, list_count}
 use Rattle.mlir_ir.specs.Canonical.{module_text}
 use Rattle.mlir_ir.specs.Syntaxes.{IsSyntaxOf}
-use Rattle.mlir_ir.specs.Trees.{Forest, none, node, put, row_forest}
+use Rattle.mlir_ir.specs.Trees.{Forest, none, node, row_forest}
 use Rattle.mlir_ir.specs.declared.syntax.Branch.{Branch, Branch', Row_of-Branch, end_of-Branch, more_of-Branch}
-use Rattle.mlir_ir.specs.declared.syntax.Form.{Form}
 use Rattle.mlir_ir.specs.declared.syntax.Form.TheVariants.{Whole}
 use Rattle.mlir_ir.specs.declared.syntax.Syntax.{Syntax}
 use Rattle.mlir_ir.specs.declared.types.Func.{Func}

@@ -10,7 +10,8 @@ use Rattle.mlir_ir.specs.Values.{func_values, type_at}
 use Rattle.mlir_ir.specs.Check.{IsWellFormed, row_breaks}
 use Rattle.mlir_ir.specs.Calls.{Called, func_calls, FitsCallee, DoCallsFit}
 use Rattle.mlir_ir.specs.Values.{Value}
-use Rattle.round_trip.specs.Flat.{flat_label}
+use Rattle.round_trip.specs.Flat.{flat, flat_label}
+use Rattle.round_trip.specs.KeepsLimits.{KeepsLimits}
 use Rattle.round_trip.specs.Readable.{ReadableModule}
 use Rattle.round_trip.specs.Widths.{IsPrintable}
 
@@ -88,6 +89,9 @@ small_readable =
       ),
       tt,
     )
+
+pub small_limits : KeepsLimits (flat (small ∷ []))
+small_limits = record { funcs = omega arith; ops = omega arith; items = (omega arith, tt) }
 
 -- its returned value has another label there
 pub small_moves : flat_label small.index small.body 16385 ≡ 32768

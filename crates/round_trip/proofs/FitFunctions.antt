@@ -27,6 +27,8 @@ use Rattle.round_trip.proofs.FitKinds.{CallFits}
 use Rattle.round_trip.proofs.FitOperations.{length_both}
 use Rattle.round_trip.proofs.FitPacks.{args_fine, over_fine, fine_over}
 use Rattle.round_trip.proofs.ReadFunctions.{func_phrase, body_parts, returning, returning_none, items_inside, arrow_inside_params, def_args, def_results, def_bodies, decl_bodies}
+use Rattle.round_trip.proofs.FitWhiles.{params_names}
+use Rattle.round_trip.proofs.ReadItems.{append_nil}
 use Rattle.round_trip.proofs.ReadLists.{args_read}
 use Rattle.round_trip.proofs.SeenLists.{EndsSeen, ends_seen, ends_fine}
 use Rattle.round_trip.proofs.SeenUses.{bare, Alike, args_alike}
@@ -111,10 +113,6 @@ head_fine l args results h few few_results =
 
 -- a definition
 
-params_names : (ps : List (Defined × Written)) → map (λ (d : Defined). d.name) (map (λ (p : Defined × Written). p.0) ps) ≡ map (λ (arg : Arg). arg.name) (args_of ps)
-params_names [] = refl
-params_names (p ∷ ps) = ap (λ (l : List (List ℕ)). p.0.name ∷ l) (params_names ps)
-
 def_params : (k a s l c r d : ℕ) (private : Bool) (name : List ℕ) (args : List Arg) (results : List IrType) (q : Phrase) → HasTypes args → inside forms.Params q ≡ done
     → args_of (params_in (inside forms.Params (func_phrase k a s l c r d private name (params_piece args) results q))) ≡ args
 def_params k a s l c r d true name [] results q is e = λ t. args_of (params_in ((arrow_inside_params d results q ∙ e) t))
@@ -126,10 +124,6 @@ pub record FuncFits (funcs : List Line) (l : Line) (items ops : ℕ) : Type 0 wh
   pub forth : func_breaks funcs l ≡ [] → items ≤ item_limit
   pub back : items ≤ item_limit → func_breaks funcs l ≡ []
   pub count : length (func_op_tokens l) ≡ ops
-
-append_nil : {A : Type 0} (xs : List A) → xs ++ [] ≡ xs
-append_nil [] = refl
-append_nil (x ∷ xs) = ap (λ l. x ∷ l) (append_nil xs)
 
 pub def_fits : (funcs : List Line) (r : Reading) (f : Func) (body : Body) (k a s l c d e y b i w z x : ℕ) (at : ℕ) → HasTypes f.args → Each IsType f.results → ReadableBody r f (Some body) → length f.args ≤ arg_limit → length f.results ≤ result_limit → SizedBody (view_items body.items)
     → Each (CallFits funcs r) (items_calls body.items)

@@ -17,11 +17,7 @@ use Rattle.round_trip.specs.Sound.{Each}
 use Rattle.round_trip.proofs.FreeNames.{SameNames, names_both}
 use Rattle.round_trip.proofs.HeldScopes.{turn_bytes, not_held}
 use Rattle.round_trip.proofs.SeenUses.{no_break}
-use Rattle.round_trip.proofs.Tests.{and_parts}
-
-or_false : (a b : Bool) → (a || b) ≡ false → (a ≡ false) × (b ≡ false)
-or_false true b h = cc
-or_false false b h = (refl, h)
+use Rattle.round_trip.proofs.Tests.{and_parts, or_false}
 
 pub scope_names : (s : List Value) (name : List ℕ) → is_defined name (names_of s) ≡ has_name s name
 scope_names [] name = refl

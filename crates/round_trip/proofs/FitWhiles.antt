@@ -37,7 +37,7 @@ use Rattle.round_trip.proofs.SeenUses.{Sees, Alike, alike_more, args_alike, same
 
 -- parameters
 
-params_names : (ps : List (Defined × Written)) → map (λ (d : Defined). d.name) (map (λ (p : Defined × Written). p.0) ps) ≡ map (λ (arg : Arg). arg.name) (args_of ps)
+pub params_names : (ps : List (Defined × Written)) → map (λ (d : Defined). d.name) (map (λ (p : Defined × Written). p.0) ps) ≡ map (λ (arg : Arg). arg.name) (args_of ps)
 params_names [] = refl
 params_names (p ∷ ps) = ap (λ (l : List (List ℕ)). p.0.name ∷ l) (params_names ps)
 

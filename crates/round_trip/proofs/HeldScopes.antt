@@ -19,7 +19,7 @@ use Rattle.mlir_ir.specs.declared.types.Pack.{Pack}
 use Rattle.round_trip.specs.Readable.{Reading, ReadsLabel, ReadsLabels}
 use Rattle.round_trip.specs.Sound.{Each}
 use Rattle.round_trip.proofs.SoundScopes.{Found, none_append, none_at, each_append}
-use Rattle.round_trip.proofs.Tests.{and_parts, same_or}
+use Rattle.round_trip.proofs.Tests.{and_parts, same_or, or_false}
 
 abbrev as_use : Value → Use
 as_use v = record { at = 0; name = v.name; pick = v.place }
@@ -66,10 +66,6 @@ right_of false x o q w f h = f h
 find_right : (p : Value → Bool) (xs ys : List Value) → find p xs ≡ None → find p (xs ++ ys) ≡ find p ys
 find_right p [] ys e = refl
 find_right p (x ∷ xs) ys e = right_of (p x) x (find p xs) (find p (xs ++ ys)) (find p ys) (find_right p xs ys) e
-
-or_false : (a b : Bool) → (a || b) ≡ false → (a ≡ false) × (b ≡ false)
-or_false true b h = cc
-or_false false b h = (refl, h)
 
 pub none_named : (scope : List Value) (u : Use) → has_name scope u.name ≡ false → find (is_of u) scope ≡ None
 none_named [] u h = refl

@@ -17,9 +17,9 @@ use Rattle.mlir_ir.specs.declared.syntax.Form.TheVariants as forms
 use Rattle.mlir_ir.specs.declared.types.Arg.{Arg}
 use Rattle.mlir_ir.specs.declared.types.IrType.{IrType}
 use Rattle.mlir_ir.specs.declared.types.Region.{Row_of-Op, end_of-Op, more_of-Op}
-use Rattle.round_trip.specs.CanonicalPieces.{type_piece, behind_commas_piece, joined_piece, use_piece, used_type_piece, used_types_piece, types_piece, init_piece, ends_piece, yield_piece, row_piece, kind_piece}
+use Rattle.round_trip.specs.CanonicalPieces.{type_piece, behind_commas_piece, joined_piece, use_piece, used_type_piece, init_piece, ends_piece, yield_piece, row_piece, kind_piece}
 use Rattle.round_trip.specs.PiecePhrases.{said}
-use Rattle.round_trip.specs.Pieces.{Piece, empty, branch}
+use Rattle.round_trip.specs.Pieces.{Piece, empty}
 use Rattle.round_trip.specs.ReadUses.{ReadsAs}
 use Rattle.round_trip.specs.Sound.{Each, IsType}
 use Rattle.round_trip.proofs.ReadIfs.{braces}
@@ -90,12 +90,6 @@ used_pieces naming [] (ty ∷ types) t = cc
 used_pieces naming (l ∷ ls) [] t = cc
 used_pieces naming (l ∷ ls) (ty ∷ types) t =
     let p = typed_first naming ty types l ls t in λ i. option_map_or type_piece (p.0 i) empty ∷ used_pieces naming ls types p.1 i
-
-pub used_list : (naming : Naming) (ls : List Label) (types : List IrType) → Typed naming types ls → used_types_piece naming ls ≡ types_piece types
-used_list naming [] [] t = refl
-used_list naming [] (ty ∷ types) t = cc
-used_list naming (l ∷ ls) [] t = cc
-used_list naming (l ∷ ls) (ty ∷ types) t = ap (λ (ps : List Piece). branch forms.Types (joined_piece ps)) (used_pieces naming (l ∷ ls) (ty ∷ types) t)
 
 pub joined_used : (naming : Naming) (at : ℕ) (ls : List Label) (types : List IrType) → Each IsType types → Typed naming types ls → tys (types_in (said at (joined_piece (map (used_type_piece naming) ls)) done)) ≡ types
 joined_used naming at ls types is t = ap (λ (ps : List Piece). tys (types_in (said at (joined_piece ps) done))) (used_pieces naming ls types t) ∙ joined_types at types is

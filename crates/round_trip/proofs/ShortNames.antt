@@ -30,6 +30,7 @@ use Rattle.mlir_ir.specs.declared.types.WhileParts.{WhileParts'}
 use Rattle.round_trip.specs.CanonicalPieces.{type_piece, behind_commas_piece, joined_piece, types_piece, results_piece, results_list_piece, arrow_list_piece, arrow_piece, name_piece, arg_piece, params_piece, value_piece, use_piece, used_type_piece, uses_piece, used_types_piece, ends_piece, pack_piece, packs_piece, flags_piece, signed_piece, truth_piece, number_piece, constant_piece, one_type, init_piece, inits_piece, simple_piece, counter_piece, carried_piece, while_inits_piece, block_piece, yield_piece, colon, row_piece, kind_piece}
 use Rattle.round_trip.specs.Pieces.{Piece, empty, gap, leaf, branch, beside, ◌<>◌, placed, spelled}
 use Rattle.round_trip.specs.Sound.{Each}
+use Rattle.round_trip.proofs.HeldScopes.{not_held}
 use Rattle.round_trip.proofs.SeenUses.{no_break}
 use Rattle.round_trip.proofs.SoundScopes.{each_append}
 use Rattle.round_trip.proofs.Tests.{and_parts}
@@ -49,14 +50,10 @@ brief (beside x y) = brief x && brief y
 abbrev ShortToken : Token → Type 0
 ShortToken token = is_long token.kind token.text ≡ false
 
-not_long : (b : Bool) → not b ≡ true → b ≡ false
-not_long true h = cc
-not_long false h = refl
-
 piece_short : (p : Piece) (at : ℕ) → brief p ≡ true → Each ShortToken (placed at p)
 piece_short empty at h = tt
 piece_short (gap bytes) at h = tt
-piece_short (leaf kind text) at h = (not_long (is_long kind text) h, tt)
+piece_short (leaf kind text) at h = (not_held (is_long kind text) h, tt)
 piece_short (branch form parts) at h = piece_short parts at h
 piece_short (beside x y) at h =
     let p = and_parts (brief x) (brief y) h in each_append ShortToken (placed at x) (placed (at + length (spelled x)) y) (piece_short x at p.0) (piece_short y (at + length (spelled x)) p.1)

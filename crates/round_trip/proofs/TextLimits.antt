@@ -34,3 +34,6 @@ limits_are m s printable is =
 pub texts_read : (m read : Module) (s : Syntax) → IsPrintable m.funcs → KeepsLimits (flat m.funcs) → IsSyntaxOf (module_text m.funcs) s → map plain_func read.funcs ≡ flat m.funcs → Reads (module_text m.funcs) read
 texts_read m read s printable keeps is same =
     record { syntax = s; parsed = is; resolved = record { keeps = (limits_are m s printable is).1 keeps; funcs = same ∙ sym (whole_read m s printable is) } }
+
+pub reading_keeps : (m read : Module) → IsPrintable m.funcs → Reads (module_text m.funcs) read → KeepsLimits (flat m.funcs)
+reading_keeps m read printable r = (limits_are m r.syntax printable r.parsed).0 r.resolved.keeps

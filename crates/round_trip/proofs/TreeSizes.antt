@@ -1,12 +1,12 @@
 -- Trees that derive tokens have no more siblings beside one another than tokens.
-use Rattle.std.proofs.Common.{◌≡◌, ℕ, ◌+◌, ◌≤◌, ◌<◌, ◌^◌, ◌&&◌, ◌||◌, not, Bool, true, false, List, refl, ap, ◌∙◌, sym, subst, arith}
+use Rattle.std.proofs.Common.{◌≡◌, ℕ, ◌+◌, ◌≤◌, ◌<◌, ◌^◌, ◌&&◌, ◌||◌, not, Bool, true, false, List, refl, ap, sym, subst, arith}
 use Rattle.mlir_ir.specs.Grammar.{Pattern, nothing, one, line, both, either, many, region, body}
 use Rattle.mlir_ir.specs.GrammarNumbers.{same_form}
 use Rattle.mlir_ir.specs.Trees.{Forest, none, node, join, Derives, derive_nothing, derive_one, derive_line, derive_both, derive_left, derive_right, derive_again, derive_enough, derive_region}
 use Rattle.mlir_ir.specs.declared.syntax.Form.{Form}
 use Rattle.mlir_ir.specs.declared.syntax.Form.TheVariants.{Leaf, Whole, Func, Params, Types, Results, TypeName, Body, Ends, Uses, Use, Op, Pack, Kind, Inits, Region, Flags}
 use Rattle.mlir_ir.specs.declared.terminal.Terminal.{Terminal}
-use Rattle.round_trip.proofs.Tests.{and_parts}
+use Rattle.round_trip.proofs.Tests.{and_parts, or_false}
 
 abbrev pub size : Forest → ℕ
 size none = 0
@@ -114,10 +114,6 @@ two_grown a b p at mid next xs ys zs g k e some =
 both_some : (x y : Bool) (at mid next : ℕ) → at ≤ mid → mid ≤ next → (x ≡ false → at < mid) → (y ≡ false → mid < next) → (x && y) ≡ false → at < next
 both_some true y at mid next le1 le2 f g h = let less = g h in omega (arith, le1, less)
 both_some false y at mid next le1 le2 f g h = let less = f refl in omega (arith, le2, less)
-
-or_false : (a b : Bool) → (a || b) ≡ false → (a ≡ false) × (b ≡ false)
-or_false true b h = cc
-or_false false b h = (refl, h)
 
 right_inner : (b : Bool) → b ≡ true → (true && (b && true)) ≡ true
 right_inner true h = refl

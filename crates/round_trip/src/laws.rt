@@ -87,6 +87,8 @@ pub fn canonical_texts_read()
     ensures reads { (m read : Module) (s : Syntax) → IsPrintable m.funcs
         → KeepsLimits (flat m.funcs) → IsSyntaxOf (module_text m.funcs) s
         → map plain_func read.funcs ≡ flat m.funcs → Reads (module_text m.funcs) read }
+    ensures kept { (m read : Module) → IsPrintable m.funcs → Reads (module_text m.funcs) read
+        → KeepsLimits (flat m.funcs) }
     ensures within { (m : Module) → length m.funcs ≤ func_limit
         → sum (map (λ (f : Func). func_ops (plain_func f)) m.funcs) ≤ module_op_limit
         → Each (λ (f : Func). func_ops (plain_func f) ≤ item_limit) m.funcs
@@ -95,5 +97,6 @@ pub fn canonical_texts_read()
 
 /// Some module is as the laws ask.
 pub fn some_module()
-    ensures { (f : Func) × IsPrintable (f ∷ []) × ReadableModule (f ∷ []) }
+    ensures { (f : Func) × IsPrintable (f ∷ []) × ReadableModule (f ∷ [])
+        × KeepsLimits (flat (f ∷ [])) }
 {}
