@@ -1,0 +1,3 @@
+mod WorkedExpansions
+pub mod PlacesFrom
+pub mod ExpandableTrees

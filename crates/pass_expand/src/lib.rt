@@ -1,0 +1,6 @@
+//! Expressions in symbols as operations that compute them.
+#![tactic(auto)]
+
+mod expandable;
+
+pub use expandable::is_expandable;
