@@ -1,3 +1,6 @@
 mod WorkedExpansions
 pub mod PlacesFrom
 pub mod ExpandableTrees
+pub mod GivenNames
+pub mod PushedProducts
+pub mod AddedTerms

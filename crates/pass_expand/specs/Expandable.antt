@@ -21,3 +21,6 @@ IsExpandable f ty p = (x : ℕ) → Stands x p → IsSymbolAt f ty x
 -- the same of each place
 abbrev pub AreExpandable : Func → IrType → Polynomials → Type 0
 AreExpandable f ty ps = (x : ℕ) → StandsIn x ps → IsSymbolAt f ty x
+
+abbrev pub AreInSymbols : Polynomials → Type 0
+AreInSymbols ps = (x : ℕ) → StandsIn x ps → x % 2 ≡ 1

@@ -1,3 +1,4 @@
 pub mod Terms
 pub mod Expanded
 pub mod Expandable
+pub mod Added

@@ -2,5 +2,8 @@
 #![tactic(auto)]
 
 mod expandable;
+mod expansion;
+mod term;
 
 pub use expandable::is_expandable;
+pub use expansion::expand;
