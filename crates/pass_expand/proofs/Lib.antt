@@ -4,3 +4,5 @@ pub mod ExpandableTrees
 pub mod GivenNames
 pub mod PushedProducts
 pub mod AddedTerms
+pub mod JoinedSteps
+pub mod AddedTrees

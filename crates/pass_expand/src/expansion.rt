@@ -112,6 +112,6 @@ pub fn expand(alloc: Global, out: &mut Out, ty: IrType, e: &Expr) -> Result<Labe
     sum.add_tree(alloc, out, &e.tree)?;
     match sum.value {
         Some(value) => Ok(value),
-        None => out.constant(alloc, ty, 0),
+        None => out.constant(alloc, sum.ty, 0),
     }
 }
