@@ -93,8 +93,8 @@ rest_plain p ps qs e h y s = (subst AreInSymbols e h) y (inr s)
 
 -- a number
 
-pub zero_added : (ty : IrType) (out : Out) (v : ℕ) (so_far : Option Label) (symbols : List Label) → v ≡ 0 → Adds out ty (steps ty out.at so_far (terms (num v) symbols)) out
-zero_added ty out v so_far symbols e = subst (λ n. Adds out ty (steps ty out.at so_far (terms (num n) symbols)) out) (sym e) (adds_none ty out)
+pub number_zero : (ty : IrType) (out : Out) (v : ℕ) (so_far : Option Label) (symbols : List Label) → v ≡ 0 → Adds out ty (steps ty out.at so_far (terms (num v) symbols)) out
+number_zero ty out v so_far symbols e = subst (λ n. Adds out ty (steps ty out.at so_far (terms (num n) symbols)) out) (sym e) (adds_none ty out)
 
 -- a tree that is a number, or has places
 
@@ -124,31 +124,44 @@ some_terms ty a b value (t ∷ ts) e h =
     let g : value ≡ label (a.at + size (t ∷ ts) - 2) = cc in
     (ap (λ (l : Label). l.0) g, h)
 
-no_terms : (ty : IrType) (a b c : Out) (ts : List Term) → None ≡ sum_after a.at None ts → Adds a ty (steps ty a.at None ts) b
-    → Adds b ty (Const (0 % 2 ^ bits_of ty) ∷ []) c → (b.at ≡ a.at + size (some_term ts) - 2) × Adds a ty (steps ty a.at None (some_term ts)) c
-no_terms ty a b c [] e h g =
-    let at = adds_at ty a b [] h in
-    (omega arith, adds_then ty a b c [] (Const (0 % 2 ^ bits_of ty) ∷ []) h g)
-no_terms ty a b c (t ∷ ts) e h g =
+zero_term : (ty : IrType) (a b : Out) (ts : List Term) → None ≡ sum_after a.at None ts → Adds a ty (steps ty a.at None ts) b → b.at ≡ a.at + size (some_term ts) - 2
+zero_term ty a b [] e h = let at = adds_at ty a b [] h in omega arith
+zero_term ty a b (t ∷ ts) e h =
     let f : None ≡ Some (label (a.at + size (t ∷ ts) - 2)) = e ∙ after_first_term a.at t ts in
     absurd (cc)
 
--- where the walk gave a sum
+zero_steps : (ty : IrType) (a b c : Out) (ts : List Term) → None ≡ sum_after a.at None ts → Adds a ty (steps ty a.at None ts) b
+    → Adds b ty (Const (0 % 2 ^ bits_of ty) ∷ []) c → Adds a ty (steps ty a.at None (some_term ts)) c
+zero_steps ty a b c [] e h g = adds_then ty a b c [] (Const (0 % 2 ^ bits_of ty) ∷ []) h g
+zero_steps ty a b c (t ∷ ts) e h g =
+    let f : None ≡ Some (label (a.at + size (t ∷ ts) - 2)) = e ∙ after_first_term a.at t ts in
+    absurd (cc)
 
-pub whole_value : (ty : IrType) (a b : Out) (value : Label) (now : Option Label) (p : Polynomial) → now ≡ Some value → now ≡ sum_after a.at None (terms p [])
-    → Adds a ty (steps ty a.at None (terms p [])) b → value.0 ≡ expansion_end a.at p
-whole_value ty a b value now p e f h = (some_terms ty a b value (terms p []) (sym e ∙ f) h).0
+-- the walk over a whole expression, which begins with no symbols
+pub record Walked (ty : IrType) (a b : Out) (now : Option Label) (p : Polynomial) : Type 0 where
+  pub value : now ≡ sum_after a.at None (terms p [])
+  pub built : Adds a ty (steps ty a.at None (terms p [])) b
 
-pub whole_added : (ty : IrType) (a b : Out) (value : Label) (now : Option Label) (p : Polynomial) → now ≡ Some value → now ≡ sum_after a.at None (terms p [])
-    → Adds a ty (steps ty a.at None (terms p [])) b → Adds a ty (steps ty a.at None (terms_of p)) b
-whole_added ty a b value now p e f h = (some_terms ty a b value (terms p []) (sym e ∙ f) h).1
+pub walked : (ty : IrType) (a b : Out) (now : Option Label) (p : Polynomial) (symbols : List Label) → symbols ≡ [] → now ≡ sum_after a.at None (terms p (reverse symbols))
+    → Adds a ty (steps ty a.at None (terms p (reverse symbols))) b → Walked ty a b now p
+walked ty a b now p symbols e v h = record {
+  value = v ∙ (λ j. sum_after a.at None (terms p (reverse (e j))));
+  built = subst (λ (s : List Label). Adds a ty (steps ty a.at None (terms p (reverse s))) b) e h;
+}
 
--- and where it gave none
+module _ (ty : IrType) (a b : Out) (now : Option Label) (p : Polynomial) (w : Walked ty a b now p) where
+  -- where it gave a sum
 
-pub zero_value : (ty : IrType) (a b c : Out) (now : Option Label) (p : Polynomial) → now ≡ None → now ≡ sum_after a.at None (terms p [])
-    → Adds a ty (steps ty a.at None (terms p [])) b → Adds b ty (Const (0 % 2 ^ bits_of ty) ∷ []) c → b.at ≡ expansion_end a.at p
-zero_value ty a b c now p e f h g = (no_terms ty a b c (terms p []) (sym e ∙ f) h g).0
+  pub whole_value : (value : Label) → now ≡ Some value → value.0 ≡ expansion_end a.at p
+  whole_value value e = (some_terms ty a b value (terms p []) (sym e ∙ w.value) w.built).0
 
-pub zero_whole : (ty : IrType) (a b c : Out) (now : Option Label) (p : Polynomial) → now ≡ None → now ≡ sum_after a.at None (terms p [])
-    → Adds a ty (steps ty a.at None (terms p [])) b → Adds b ty (Const (0 % 2 ^ bits_of ty) ∷ []) c → Adds a ty (steps ty a.at None (terms_of p)) c
-zero_whole ty a b c now p e f h g = (no_terms ty a b c (terms p []) (sym e ∙ f) h g).1
+  pub whole_added : (value : Label) → now ≡ Some value → Adds a ty (steps ty a.at None (terms_of p)) b
+  whole_added value e = (some_terms ty a b value (terms p []) (sym e ∙ w.value) w.built).1
+
+  -- and where it gave none
+
+  pub zero_value : now ≡ None → (l : Label) → l.0 ≡ b.at → l.0 ≡ expansion_end a.at p
+  zero_value e l q = q ∙ zero_term ty a b (terms p []) (sym e ∙ w.value) w.built
+
+  pub zero_added : now ≡ None → (c : Out) (ty' : IrType) → ty' ≡ ty → Adds b ty' (Const (0 % 2 ^ bits_of ty') ∷ []) c → Adds a ty (steps ty a.at None (terms_of p)) c
+  zero_added e c ty' t g = zero_steps ty a b c (terms p []) (sym e ∙ w.value) w.built (subst (λ z. Adds b z (Const (0 % 2 ^ bits_of z) ∷ []) c) t g)

@@ -12,9 +12,9 @@ abbrev pub invariant-add_places-loop-t : goal.invariant-add_places-loop-t
 invariant-add_places-loop-t l = record {
   behind : (new : Out)
       → Adds l.out l.fn.self.ty
-          (steps l.fn.self.ty l.out.at l.self.value (place_terms (variable_of false l.x.0) (polynomials (drop l.t-index l.ts)) (reverse l.self.symbols.items))) new
+      (steps l.fn.self.ty l.out.at l.self.value (place_terms (variable_of false l.x.0) (polynomials (drop l.t-index l.ts)) (reverse l.self.symbols.items))) new
       → Adds l.fn.out l.fn.self.ty
-          (steps l.fn.self.ty l.fn.out.at l.fn.self.value (place_terms (variable_of false l.x.0) (polynomials l.ts) (reverse l.fn.self.symbols.items))) new;
+      (steps l.fn.self.ty l.fn.out.at l.fn.self.value (place_terms (variable_of false l.x.0) (polynomials l.ts) (reverse l.fn.self.symbols.items))) new;
   value : sum_after l.out.at l.self.value (place_terms (variable_of false l.x.0) (polynomials (drop l.t-index l.ts)) (reverse l.self.symbols.items))
       ≡ sum_after l.fn.out.at l.fn.self.value (place_terms (variable_of false l.x.0) (polynomials l.ts) (reverse l.fn.self.symbols.items));
   symbols : l.self.symbols.items ≡ l.fn.self.symbols.items ++ replicate l.t-index l.x;
