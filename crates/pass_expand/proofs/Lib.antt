@@ -6,3 +6,7 @@ pub mod PushedProducts
 pub mod AddedTerms
 pub mod JoinedSteps
 pub mod AddedTrees
+pub mod PlainSteps
+pub mod StepValues
+pub mod TermValues
+pub mod ExpansionEnds

@@ -2,3 +2,4 @@ pub mod Terms
 pub mod Expanded
 pub mod Expandable
 pub mod Added
+pub mod Computed

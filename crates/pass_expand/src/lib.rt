@@ -3,7 +3,9 @@
 
 mod expandable;
 mod expansion;
+mod laws;
 mod term;
 
 pub use expandable::is_expandable;
 pub use expansion::expand;
+pub use laws::expansions_compute;
