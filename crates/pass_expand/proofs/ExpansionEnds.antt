@@ -11,8 +11,9 @@ use Rattle.pass_expand.specs.Expandable.{IsInSymbols}
 use Rattle.pass_expand.specs.Expanded.{expansion, expansion_end, steps, size}
 use Rattle.pass_expand.specs.Terms.{Term, terms, some_term, terms_of}
 use Rattle.pass_expand.proofs.PlainSteps.{after_steps, after_kept, plain_ends}
-use Rattle.pass_expand.proofs.StepValues.{total, TermsBelow, steps_plain, first_value}
-use Rattle.pass_expand.proofs.TermValues.{total_some, total_value, terms_below, some_below}
+use Rattle.pass_expand.proofs.StepValues.{InFront, total, steps_plain, first_value}
+use Rattle.pass_expand.proofs.TermSymbols.{TermsOf, symbols_of}
+use Rattle.pass_expand.proofs.TermValues.{total_some, total_value}
 use Rattle.scev_tree.specs.Polynomial.{Polynomial}
 use Rattle.scev_tree.specs.Standing.{Stands}
 use Rattle.scev_tree.specs.Value.{value, numbers}
@@ -28,7 +29,7 @@ expansion_ends fresh ty k at p fuel env s = plain_ends ty fresh k at fuel (steps
 pub expansion_keeps : (ty : IrType) (at : ℕ) (p : Polynomial) (env : List Binding) → Kept at env (scope_after ty at p env)
 expansion_keeps ty at p env = after_kept ty at env (steps ty at None (terms_of p))
 
-some_value : (ty : IrType) (at : ℕ) (ts : List Term) (env : List Binding) → TermsBelow at (some_term ts)
+some_value : (ty : IrType) (at : ℕ) (ts : List Term) (env : List Binding) → TermsOf (InFront at) (some_term ts)
     → look (after_steps ty at env (steps ty at None (some_term ts))) (at + size (some_term ts) - 2) ≡ number (bits_of ty) (total env (some_term ts))
 some_value ty at [] env b = let i : at + 2 - 2 ≡ at + 0 + 0 = omega arith in ap (look (after_steps ty at env (steps ty at None (some_term [])))) i ∙ first_value ty at (record { coefficient = 0; symbols = [] }) [] env b
 some_value ty at (t ∷ ts) env b =
@@ -40,7 +41,7 @@ pub expansion_value : (ty : IrType) (at : ℕ) (p : Polynomial) (env : List Bind
     → ((x : ℕ) → Stands x p → symbols x ≡ (look env (x / 2)).v) → look (scope_after ty at p env) (expansion_end at p) ≡ number (bits_of ty) (value symbols p)
 expansion_value ty at p env symbols odd front same =
     let one : value symbols p * 1 ≡ value symbols p = omega arith in
-    some_value ty at (terms p []) env (some_below at (terms p []) (terms_below at p [] front tt))
+    some_value ty at (terms p []) env (symbols_of (InFront at) p front)
     ∙ ap (number (bits_of ty)) (total_some env (terms p []) ∙ total_value env symbols p [] (λ x s. (odd x s, same x s)) ∙ one)
 
 odd_symbol : (symbols turns : ℕ → ℕ) (x : ℕ) → x % 2 ≡ 1 → numbers symbols turns x ≡ symbols (x / 2)

@@ -7,6 +7,7 @@ pub mod AddedTerms
 pub mod JoinedSteps
 pub mod AddedTrees
 pub mod PlainSteps
+pub mod TermSymbols
 pub mod StepValues
 pub mod TermValues
 pub mod ExpansionEnds

@@ -8,12 +8,13 @@ use Rattle.mlir_ir.specs.Operations.{SimpleOp, Const}
 use Rattle.mlir_ir.specs.Runs.{Number, number, Binding, look}
 use Rattle.mlir_ir.specs.Words.{bits_of}
 use Rattle.mlir_ir.specs.declared.types.IrType.{IrType}
-use Rattle.pass_copy.proofs.Bindings.{AllBelow, bound, look_same, look_other, all_below_more}
+use Rattle.pass_copy.proofs.Bindings.{bound, look_same, look_other}
 use Rattle.pass_copy.proofs.KeptLabels.{Kept, binds_kept}
 use Rattle.pass_copy.specs.Built.{label}
 use Rattle.pass_expand.specs.Expanded.{wrapping, products, term_steps, steps, size}
 use Rattle.pass_expand.specs.Terms.{Term}
 use Rattle.pass_expand.proofs.AddedTerms.{products_count}
+use Rattle.pass_expand.proofs.TermSymbols.{AllOf, TermsOf, all_weaker, terms_weaker}
 use Rattle.pass_expand.proofs.PlainSteps.{ArePlain, plain_append, after_steps, after_kept, after_more}
 
 -- the product of the numbers of symbols, and the sum of terms
@@ -25,20 +26,21 @@ abbrev pub total : List Binding → List Term → ℕ
 total env [] = 0
 total env (t ∷ ts) = t.coefficient * times env t.symbols + total env ts
 
--- the symbols of terms are values in front of a label
-abbrev pub TermsBelow : ℕ → List Term → Type 0
-TermsBelow at [] = Unit {0}
-TermsBelow at (t ∷ ts) = AllBelow at t.symbols × TermsBelow at ts
+-- values in front of a label
+abbrev pub InFront : ℕ → ℕ → Type 0
+InFront at l = l < at
 
-pub terms_below_more : (a b : ℕ) (ts : List Term) → a ≤ b → TermsBelow a ts → TermsBelow b ts
-terms_below_more a b [] le h = tt
-terms_below_more a b (t ∷ ts) le h = (all_below_more a b t.symbols le h.0, terms_below_more a b ts le h.1)
+all_later : (a b : ℕ) (xs : List Label) → a ≤ b → AllOf (InFront a) xs → AllOf (InFront b) xs
+all_later a b xs le h = all_weaker (InFront a) (InFront b) xs (λ l lt. omega arith) h
 
-times_kept : (at : ℕ) (env env2 : List Binding) (xs : List Label) → Kept at env env2 → AllBelow at xs → times env2 xs ≡ times env xs
+terms_later : (a b : ℕ) (ts : List Term) → a ≤ b → TermsOf (InFront a) ts → TermsOf (InFront b) ts
+terms_later a b ts le h = terms_weaker (InFront a) (InFront b) ts (λ l lt. omega arith) h
+
+times_kept : (at : ℕ) (env env2 : List Binding) (xs : List Label) → Kept at env env2 → AllOf (InFront at) xs → times env2 xs ≡ times env xs
 times_kept at env env2 [] k h = refl
 times_kept at env env2 (x ∷ xs) k h = λ j. (k x.0 h.0 j).v * times_kept at env env2 xs k h.1 j
 
-total_kept : (at : ℕ) (env env2 : List Binding) (ts : List Term) → Kept at env env2 → TermsBelow at ts → total env2 ts ≡ total env ts
+total_kept : (at : ℕ) (env env2 : List Binding) (ts : List Term) → Kept at env env2 → TermsOf (InFront at) ts → total env2 ts ≡ total env ts
 total_kept at env env2 [] k h = refl
 total_kept at env env2 (t ∷ ts) k h = λ j. t.coefficient * times_kept at env env2 t.symbols k h.0 j + total_kept at env env2 ts k h.1 j
 
@@ -79,7 +81,7 @@ module _ (ty : IrType) where
   w = bits_of ty
 
   -- the last of the products of c with symbols
-  products_value : (at v c : ℕ) (xs : List Label) (env : List Binding) → at ≡ v + 1 → look env v ≡ number w c → AllBelow at xs
+  products_value : (at v c : ℕ) (xs : List Label) (env : List Binding) → at ≡ v + 1 → look env v ≡ number w c → AllOf (InFront at) xs
       → look (after_steps ty at env (products v xs)) (v + length xs) ≡ number w (c * times env xs)
   products_value at v c [] env e h b =
       let i : v + 0 ≡ v = omega arith in
@@ -94,20 +96,20 @@ module _ (ty : IrType) where
       let i : v + suc (length xs) ≡ v + 1 + length xs = omega arith in
       let m : c * (look env x.0).v * times env xs ≡ c * ((look env x.0).v * times env xs) = grind arith in
       ap (look (after_steps ty (at + 1) env1 (products (v + 1) xs))) i
-      ∙ products_value (at + 1) (v + 1) (c * (look env x.0).v) xs env1 (omega arith) here (all_below_more at (at + 1) xs (omega arith) b.1)
+      ∙ products_value (at + 1) (v + 1) (c * (look env x.0).v) xs env1 (omega arith) here (all_later at (at + 1) xs (omega arith) b.1)
       ∙ ap (number w) (ap (λ z. c * (look env x.0).v * z) kept ∙ m)
 
   -- the value of a term
-  term_value : (at : ℕ) (t : Term) (env : List Binding) → AllBelow at t.symbols
+  term_value : (at : ℕ) (t : Term) (env : List Binding) → AllOf (InFront at) t.symbols
       → look (after_steps ty at env (term_steps ty at t)) (at + length t.symbols) ≡ number w (t.coefficient * times env t.symbols)
   term_value at t env b =
       let n = number w (t.coefficient % 2 ^ w) in
       let env1 = bound at n ∷ env in
-      products_value (at + 1) at t.coefficient t.symbols env1 refl (look_same at n at env refl ∙ number_mod w t.coefficient) (all_below_more at (at + 1) t.symbols (omega arith) b)
+      products_value (at + 1) at t.coefficient t.symbols env1 refl (look_same at n at env refl ∙ number_mod w t.coefficient) (all_later at (at + 1) t.symbols (omega arith) b)
       ∙ ap (λ z. number w (t.coefficient * z)) (times_kept at env env1 t.symbols (binds_kept at (n ∷ []) env) b)
 
   -- the sum of terms with a sum a so far
-  sum_value : (at v a : ℕ) (ts : List Term) (env : List Binding) → at ≡ v + 1 → look env v ≡ number w a → TermsBelow at ts
+  sum_value : (at v a : ℕ) (ts : List Term) (env : List Binding) → at ≡ v + 1 → look env v ≡ number w a → TermsOf (InFront at) ts
       → look (after_steps ty at env (steps ty at (Some (label v)) ts)) (v + size ts) ≡ number w (a + total env ts)
   sum_value at v a [] env e h b =
       let i : v + 0 ≡ v = omega arith in
@@ -132,11 +134,11 @@ module _ (ty : IrType) where
       ap (look (after_steps ty at env (steps ty at (Some (label v)) (t ∷ ts)))) i
       ∙ ap (λ z. look z (at + len + 1 + size ts)) (after_more ty at env (term_steps ty at t) (wrapping Addi (label v) (label (at + len)) ∷ steps ty (at + len + 2) (Some (label (at + len + 1))) ts))
       ∙ ap (λ z. look (after_steps ty z env2 (steps ty (at + len + 2) (Some (label (at + len + 1))) ts)) (at + len + 1 + size ts)) q
-      ∙ sum_value (at + len + 2) (at + len + 1) (a + m) ts env2 (omega arith) here (terms_below_more at (at + len + 2) ts (omega arith) b.1)
+      ∙ sum_value (at + len + 2) (at + len + 1) (a + m) ts env2 (omega arith) here (terms_later at (at + len + 2) ts (omega arith) b.1)
       ∙ ap (number w) (ap (λ z. a + m + z) (total_kept at env env2 ts k2 b.1) ∙ m2)
 
   -- and where there is no sum so far
-  pub first_value : (at : ℕ) (t : Term) (ts : List Term) (env : List Binding) → TermsBelow at (t ∷ ts)
+  pub first_value : (at : ℕ) (t : Term) (ts : List Term) (env : List Binding) → TermsOf (InFront at) (t ∷ ts)
       → look (after_steps ty at env (steps ty at None (t ∷ ts))) (at + length t.symbols + size ts) ≡ number w (total env (t ∷ ts))
   first_value at t ts env b =
       let len = length t.symbols in
@@ -147,5 +149,5 @@ module _ (ty : IrType) where
       let m = t.coefficient * times env t.symbols in
       ap (λ z. look z (at + len + size ts)) (after_more ty at env (term_steps ty at t) (steps ty (at + len + 1) (Some (label (at + len))) ts))
       ∙ ap (λ z. look (after_steps ty z env1 (steps ty (at + len + 1) (Some (label (at + len))) ts)) (at + len + size ts)) pl
-      ∙ sum_value (at + len + 1) (at + len) m ts env1 (omega arith) (term_value at t env b.0) (terms_below_more at (at + len + 1) ts (omega arith) b.1)
+      ∙ sum_value (at + len + 1) (at + len) m ts env1 (omega arith) (term_value at t env b.0) (terms_later at (at + len + 1) ts (omega arith) b.1)
       ∙ ap (λ z. number w (m + z)) (total_kept at env env1 ts k1 b.1)

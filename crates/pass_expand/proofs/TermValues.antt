@@ -4,9 +4,8 @@ use Rattle.std.proofs.Math.Nat.{pow-suc, pow-zero}
 use Rattle.std.proofs.lemmas.Bool.{cases_eq, eq-eqb, ne_eqb}
 use Rattle.arith_word.specs.declared.label.Label.{Label}
 use Rattle.mlir_ir.specs.Runs.{Binding, look}
-use Rattle.pass_copy.proofs.Bindings.{AllBelow}
 use Rattle.pass_expand.specs.Terms.{Term, term, symbol, terms, place_terms, some_term}
-use Rattle.pass_expand.proofs.StepValues.{times, total, TermsBelow}
+use Rattle.pass_expand.proofs.StepValues.{times, total}
 use Rattle.scev_tree.specs.Polynomial.{Polynomial, Polynomials, num, ext, none, more}
 use Rattle.scev_tree.specs.Standing.{Stands, StandsIn}
 use Rattle.scev_tree.specs.Value.{worth, value, values}
@@ -24,28 +23,6 @@ total_append env (t ∷ ts) us = let e = total_append env ts us in omega arith
 pub total_some : (env : List Binding) (ts : List Term) → total env (some_term ts) ≡ total env ts
 total_some env [] = refl
 total_some env (t ∷ ts) = refl
-
--- the symbols stand in front of a label
-
-below_append : (at : ℕ) (ts us : List Term) → TermsBelow at ts → TermsBelow at us → TermsBelow at (ts ++ us)
-below_append at [] us h g = g
-below_append at (t ∷ ts) us h g = (h.0, below_append at ts us h.1 g)
-
-mutual
-  pub terms_below : (at : ℕ) (p : Polynomial) (symbols : List Label) → ((x : ℕ) → Stands x p → x / 2 < at) → AllBelow at symbols → TermsBelow at (terms p symbols)
-  terms_below at (num v) symbols h b = elim (cases_eq v 0) [ inl e ↦ rw (eq-eqb v 0 e) tt | inr ne ↦ rw (ne_eqb v 0 ne) (b, tt) ]
-  terms_below at (ext x ps) symbols h b = places_below at x ps symbols (h x (inl refl)) (λ y s. h y (inr s)) b
-
-  places_below : (at x : ℕ) (ps : Polynomials) (symbols : List Label) → x / 2 < at → ((y : ℕ) → StandsIn y ps → y / 2 < at) → AllBelow at symbols
-      → TermsBelow at (place_terms x ps symbols)
-  places_below at x none symbols lt h b = tt
-  places_below at x (more p ps) symbols lt h b =
-      below_append at (terms p symbols) (place_terms x ps (symbol x ∷ symbols)) (terms_below at p symbols (λ y s. h y (inl s)) b)
-      (places_below at x ps (symbol x ∷ symbols) lt (λ y s. h y (inr s)) (lt, b))
-
-pub some_below : (at : ℕ) (ts : List Term) → TermsBelow at ts → TermsBelow at (some_term ts)
-some_below at [] h = (tt, tt)
-some_below at (t ∷ ts) h = h
 
 -- a variable is the number of its symbol
 abbrev pub IsNumbered : List Binding → (ℕ → ℕ) → ℕ → Type 0
