@@ -3,13 +3,12 @@ use Rattle.std.proofs.Common.{◌≡◌, ℕ, zero, suc, ◌+◌, ◌*◌, ◌/�
 use Rattle.std.proofs.Math.Seq.{take-append_seam}
 use Rattle.std.proofs.lemmas.List.{reverse-append}
 use Rattle.arith_word.specs.declared.label.Label.{Label}
-use Rattle.mlir_ir.specs.Operations.{SimpleOp, Const}
+use Rattle.mlir_ir.specs.Operations.{Const}
 use Rattle.mlir_ir.specs.Words.{bits_of}
 use Rattle.mlir_ir.specs.declared.types.IrType.{IrType}
 use Rattle.pass_copy.specs.Built.{label}
 use Rattle.pass_copy.specs.declared.building.Out.{Out}
 use Rattle.scev_tree.specs.Polynomial.{Polynomial, Polynomials, num, ext, none, more, variable_of}
-use Rattle.scev_tree.specs.Standing.{Stands, StandsIn}
 use Rattle.pass_expand.specs.Added.{Adds}
 use Rattle.pass_expand.specs.Expandable.{IsInSymbols, AreInSymbols}
 use Rattle.pass_expand.specs.Expanded.{steps, sum_after, size, expansion_end}

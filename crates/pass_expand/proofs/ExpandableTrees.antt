@@ -1,10 +1,9 @@
 -- A tree is expandable where its variable is a symbol of the type, and each place is expandable.
-use Rattle.std.proofs.Common.{◌≡◌, ℕ, ◌%◌, ◌+◌, ◌<◌, ◌≤◌, inl, inr, List, [], ◌∷◌, refl, ap, ◌∙◌, sym, subst, length, get_or, drop, IsTrue, ◌↔◌, true, false, Bool}
+use Rattle.std.proofs.Common.{◌≡◌, ℕ, ◌+◌, ◌<◌, ◌≤◌, inl, inr, List, refl, ap, ◌∙◌, sym, subst, length, get_or, drop, IsTrue, ◌↔◌, false, Bool}
 use Rattle.mlir_ir.specs.declared.types.Func.{Func}
 use Rattle.mlir_ir.specs.declared.types.IrType.{IrType}
 use Rattle.scev_tree.specs.declared.tree.Tree.{Tree, Num}
-use Rattle.scev_tree.specs.Polynomial.{Polynomial, Polynomials, num, ext, none, more}
-use Rattle.scev_tree.specs.Standing.{Stands, StandsIn}
+use Rattle.scev_tree.specs.Polynomial.{Polynomials, ext}
 use Rattle.scev_tree.specs.Tree.{polynomial_of, polynomials}
 use Rattle.scev_tree.proofs.ListedTrees.{polynomial_of_num}
 use Rattle.pass_expand.specs.Expandable.{IsSymbolAt, IsExpandable, AreExpandable}

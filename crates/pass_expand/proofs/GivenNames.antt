@@ -1,6 +1,6 @@
 -- Operations with one value each, under fresh names: their counts, and those that are built one behind another.
 use Rattle.std.proofs.Common.{◌≡◌, ℕ, suc, ◌+◌, List, [], ◌∷◌, ◌++◌, length, refl, ap, ◌∙◌, sym, subst, arith}
-use Rattle.mlir_ir.specs.Operations.{SimpleOp, Simple, OpList, nil, joined, labels_of}
+use Rattle.mlir_ir.specs.Operations.{SimpleOp, Simple, joined, labels_of}
 use Rattle.mlir_ir.specs.declared.types.IrType.{IrType}
 use Rattle.pass_copy.specs.Built.{IsBehind, fresh_at, gives_one}
 use Rattle.pass_copy.specs.Renamed.{names_of}

@@ -11,3 +11,7 @@ pub mod TermSymbols
 pub mod StepValues
 pub mod TermValues
 pub mod ExpansionEnds
+pub mod StepUses
+pub mod ExpansionLabels
+pub mod TypedExpansions
+pub mod RenamedExpansions

@@ -1,7 +1,7 @@
 -- The places of a tree from one on.
-use Rattle.std.proofs.Common.{◌≡◌, ℕ, zero, suc, ◌+◌, ◌<◌, ◌≤◌, List, [], ◌∷◌, refl, ap, ◌∙◌, sym, arith, length, get_or, drop}
+use Rattle.std.proofs.Common.{◌≡◌, ℕ, zero, suc, ◌+◌, ◌<◌, ◌≤◌, List, [], ◌∷◌, refl, ◌∙◌, sym, arith, length, get_or, drop}
 use Rattle.scev_tree.specs.declared.tree.Tree.{Tree}
-use Rattle.scev_tree.specs.Polynomial.{Polynomials, none, more}
+use Rattle.scev_tree.specs.Polynomial.{none, more}
 use Rattle.scev_tree.specs.Tree.{polynomial_of, polynomials}
 
 first_place : (ts : List Tree) (i : ℕ) (d : Tree) → i < length ts → polynomials (drop i ts) ≡ more (polynomial_of (get_or ts i d)) (polynomials (drop (suc i) ts))

@@ -1,13 +1,11 @@
 -- Operations that never trap and take nothing from the state: how a run of them ends.
-use Rattle.std.proofs.Common.{◌≡◌, ℕ, suc, ◌+◌, ◌<◌, ◌≤◌, List, [], ◌∷◌, ◌++◌, length, Option, Some, None, refl, ap, ◌∙◌, sym, subst, arith}
+use Rattle.std.proofs.Common.{◌≡◌, ℕ, suc, ◌+◌, List, [], ◌∷◌, ◌++◌, length, Option, Some, None, refl, ap, ◌∙◌, arith}
 use Rattle.arith_word.specs.Operation.{value_of}
-use Rattle.arith_word.specs.declared.op.BinOp.{BinOp}
-use Rattle.arith_word.specs.declared.op.BinOp.TheVariants.{Addi, Muli}
 use Rattle.mlir_ir.specs.Operations.{SimpleOp, Const, Bin, Cast, Cmp, Select, Call}
-use Rattle.mlir_ir.specs.Runs.{Number, number, Binding, State, End, Done, look, computed}
+use Rattle.mlir_ir.specs.Runs.{number, Binding, State, Done, look, computed}
 use Rattle.mlir_ir.specs.Words.{bits_of}
 use Rattle.mlir_ir.specs.declared.types.IrType.{IrType}
-use Rattle.pass_copy.proofs.Bindings.{bound, look_other}
+use Rattle.pass_copy.proofs.Bindings.{bound}
 use Rattle.pass_copy.proofs.KeptLabels.{Kept, kept_self, kept_after, binds_kept}
 use Rattle.pass_copy.proofs.RunEnds.{ends_ops}
 use Rattle.pass_expand.specs.Expanded.{given_names}

@@ -1,10 +1,9 @@
 -- Products with symbols from a stack, the last of them first.
-use Rattle.std.proofs.Common.{◌≡◌, ℕ, zero, suc, ◌+◌, ◌-◌, ◌<◌, ◌≤◌, List, [], ◌∷◌, ◌++◌, length, get_or, take, take_all, reverse, refl, ap, ◌∙◌, sym, subst, arith}
+use Rattle.std.proofs.Common.{◌≡◌, ℕ, suc, ◌+◌, ◌-◌, ◌<◌, ◌≤◌, List, [], ◌∷◌, length, get_or, take, take_all, reverse, refl, ap, ◌∙◌, sym, subst, arith}
 use Rattle.std.proofs.Math.Seq.{take-suc}
 use Rattle.std.proofs.lemmas.List.{reverse-append}
 use Rattle.arith_word.specs.declared.label.Label.{Label}
 use Rattle.arith_word.specs.declared.op.BinOp.TheVariants.{Muli}
-use Rattle.mlir_ir.specs.Operations.{SimpleOp}
 use Rattle.mlir_ir.specs.declared.types.IrType.{IrType}
 use Rattle.pass_copy.specs.Built.{label}
 use Rattle.pass_copy.specs.declared.building.Out.{Out}

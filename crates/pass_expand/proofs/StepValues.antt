@@ -1,11 +1,10 @@
 -- The numbers that products and sums of terms give.
-use Rattle.std.proofs.Common.{◌≡◌, ℕ, suc, ◌+◌, ◌*◌, ◌%◌, ◌^◌, ◌<◌, ◌≤◌, List, [], ◌∷◌, ◌++◌, length, Option, Some, None, refl, ap, ◌∙◌, sym, subst, arith}
+use Rattle.std.proofs.Common.{◌≡◌, ℕ, suc, ◌+◌, ◌*◌, ◌%◌, ◌^◌, ◌<◌, ◌≤◌, List, [], ◌∷◌, length, Option, Some, None, refl, ap, ◌∙◌, sym, arith}
 use Rattle.std.proofs.Math.Nat.{mod-mod, add-mod-mod}
 use Rattle.std.proofs.lemmas.Nat.{mul-mod_second}
 use Rattle.arith_word.specs.declared.label.Label.{Label}
-use Rattle.arith_word.specs.declared.op.BinOp.TheVariants.{Addi, Muli}
-use Rattle.mlir_ir.specs.Operations.{SimpleOp, Const}
-use Rattle.mlir_ir.specs.Runs.{Number, number, Binding, look}
+use Rattle.arith_word.specs.declared.op.BinOp.TheVariants.{Addi}
+use Rattle.mlir_ir.specs.Runs.{number, Binding, look}
 use Rattle.mlir_ir.specs.Words.{bits_of}
 use Rattle.mlir_ir.specs.declared.types.IrType.{IrType}
 use Rattle.pass_copy.proofs.Bindings.{bound, look_same, look_other}

@@ -1,10 +1,10 @@
 -- The sum of the terms of a polynomial is its value, where its variables are symbols.
-use Rattle.std.proofs.Common.{◌≡◌, ℕ, zero, suc, ◌+◌, ◌*◌, ◌/◌, ◌%◌, ◌^◌, ◌<◌, inl, inr, List, [], ◌∷◌, ◌++◌, length, refl, ap, ◌∙◌, sym, subst, arith}
+use Rattle.std.proofs.Common.{◌≡◌, ℕ, suc, ◌+◌, ◌*◌, ◌/◌, ◌%◌, ◌^◌, inl, inr, List, [], ◌∷◌, ◌++◌, refl, ap, ◌∙◌, sym, arith}
 use Rattle.std.proofs.Math.Nat.{pow-suc, pow-zero}
 use Rattle.std.proofs.lemmas.Bool.{cases_eq, eq-eqb, ne_eqb}
 use Rattle.arith_word.specs.declared.label.Label.{Label}
 use Rattle.mlir_ir.specs.Runs.{Binding, look}
-use Rattle.pass_expand.specs.Terms.{Term, term, symbol, terms, place_terms, some_term}
+use Rattle.pass_expand.specs.Terms.{Term, symbol, terms, place_terms, some_term}
 use Rattle.pass_expand.proofs.StepValues.{times, total}
 use Rattle.scev_tree.specs.Polynomial.{Polynomial, Polynomials, num, ext, none, more}
 use Rattle.scev_tree.specs.Standing.{Stands, StandsIn}

@@ -1,5 +1,5 @@
 -- The terms of a polynomial in symbols: for each monomial its coefficient and its symbols.
-use Rattle.std.specs.Prelude.{ℕ, suc, ◌≡◌, ◌/◌, ◌==◌, List, [], ◌∷◌, ◌++◌, if◌then◌else◌}
+use Rattle.std.specs.Prelude.{ℕ, ◌/◌, ◌==◌, List, [], ◌∷◌, ◌++◌, if◌then◌else◌}
 use Rattle.arith_word.specs.declared.label.Label.{Label}
 use Rattle.pass_copy.specs.Built.{label}
 use Rattle.scev_tree.specs.Polynomial.{Polynomial, Polynomials, num, ext, none, more}

@@ -1,4 +1,4 @@
-use Rattle.std.proofs.Common.{arith, refl, ◌≡◌, ◌∙◌, IsTrue, ◌↔◌, true, false}
+use Rattle.std.proofs.Common.{arith, refl, false}
 use Rattle.pass_expand.specs.Expandable.{IsExpandable}
 use Rattle.scev_tree.specs.Tree.{polynomial_of}
 use Rattle.scev_tree.proofs.TreePlaces.{ext_is}

@@ -1,4 +1,4 @@
-use Rattle.std.proofs.Common.{◌≡◌, ◌+◌, ◌∙◌, ap, sym, subst, arith, List}
+use Rattle.std.proofs.Common.{◌∙◌, sym, subst, arith, List}
 use Rattle.arith_word.specs.declared.label.Label.{Label}
 use Rattle.pass_expand.specs.Added.{Adds}
 use Rattle.pass_expand.specs.Expanded.{products}

@@ -1,4 +1,3 @@
-use Rattle.std.proofs.Common.{◌≡◌, sym}
 use Rattle.pass_expand.proofs.AddedTrees.{number_zero}
 use Rattle.pass_expand.proofs.expansion.Sum.add_number.Goals as goal
 
