@@ -4,13 +4,16 @@ use Rattle.std.proofs.lemmas.Bool.{ne_eqb}
 use Rattle.mlir_ir.specs.Runs.{Binding, Iteration, State, Done, look, number, run_ops}
 use Rattle.mlir_ir.specs.Words.{bits_of}
 use Rattle.mlir_ir.specs.declared.types.IrType.{IrType}
-use Rattle.pass_copy.proofs.KeptLabels.{Kept}
+use Rattle.pass_copy.proofs.KeptLabels.{Kept, kept_self}
 use Rattle.pass_copy.proofs.RunEnds.{ends_ops, ops_ends}
-use Rattle.pass_expand.specs.Computed.{AreInFront, IsComputed, numbers_in}
+use Rattle.pass_expand.specs.Computed.{AreInFront, AreOwn, IsComputed, numbers_in}
 use Rattle.pass_expand.specs.Expandable.{IsInSymbols}
 use Rattle.pass_expand.specs.Expanded.{expansion, expansion_end, steps, size}
 use Rattle.pass_expand.specs.Terms.{Term, terms, some_term, terms_of}
 use Rattle.pass_expand.proofs.PlainSteps.{after_steps, after_kept, plain_ends}
+use Rattle.pass_expand.proofs.ExpansionLabels.{last_label, some_labels}
+use Rattle.pass_expand.proofs.GivenNames.{given_labels}
+use Rattle.pass_expand.proofs.StepReports.{plain_reports}
 use Rattle.pass_expand.proofs.StepValues.{InFront, total, steps_plain, first_value}
 use Rattle.pass_expand.proofs.TermSymbols.{TermsOf, symbols_of}
 use Rattle.pass_expand.proofs.TermValues.{total_some, total_value}
@@ -44,14 +47,24 @@ expansion_value ty at p env symbols odd front same =
     some_value ty at (terms p []) env (symbols_of (InFront at) p front)
     ∙ ap (number (bits_of ty)) (total_some env (terms p []) ∙ total_value env symbols p [] (λ x s. (odd x s, same x s)) ∙ one)
 
+pub expansion_reports : (fresh : ℕ → List ℕ) (ty : IrType) (k at : ℕ) (p : Polynomial) (fuel : ℕ) (around : List Iteration) (env : List Binding) (s : State)
+    → AreOwn at (expansion_end at p) env around (run_ops (expansion fresh ty k at p) fuel at around env s).reports
+expansion_reports fresh ty k at p fuel around env s =
+    let does = steps ty at None (terms_of p) in
+    let e = last_label fresh ty k at p in
+    let n = given_labels fresh ty k does in
+    let some = some_labels fresh ty k at p in
+    plain_reports ty fresh at (expansion_end at p) around env k at fuel does env s (steps_plain ty at None (terms_of p)) (omega arith) (omega (arith, e, n, some)) (kept_self at env)
+
 odd_symbol : (symbols turns : ℕ → ℕ) (x : ℕ) → x % 2 ≡ 1 → numbers symbols turns x ≡ symbols (x / 2)
 odd_symbol symbols turns x e = rw (ne_eqb (x % 2) 0 (λ z. omega arith)) refl
 
 pub expansion_computes : (fresh : ℕ → List ℕ) (ty : IrType) (k at : ℕ) (p : Polynomial) (fuel : ℕ) (around : List Iteration) (env : List Binding) (s : State) → IsInSymbols p
-    → AreInFront at p → IsComputed ty at p env s (run_ops (expansion fresh ty k at p) fuel at around env s)
+    → AreInFront at p → IsComputed ty at p env around s (run_ops (expansion fresh ty k at p) fuel at around env s)
 expansion_computes fresh ty k at p fuel around env s odd front = record {
   scope = scope_after ty at p env;
   ends = ops_ends (expansion fresh ty k at p) fuel at around env s ∙ expansion_ends fresh ty k at p fuel env s;
   value = λ turns. expansion_value ty at p env (numbers (numbers_in env) turns) odd front (λ x h. odd_symbol (numbers_in env) turns x (odd x h));
   kept = expansion_keeps ty at p env;
+  reports = expansion_reports fresh ty k at p fuel around env s;
 }

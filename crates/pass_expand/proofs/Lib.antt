@@ -10,6 +10,7 @@ pub mod PlainSteps
 pub mod TermSymbols
 pub mod StepValues
 pub mod TermValues
+pub mod StepReports
 pub mod ExpansionEnds
 pub mod StepUses
 pub mod ExpansionLabels

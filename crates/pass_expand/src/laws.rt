@@ -14,5 +14,6 @@ pub fn expansions_compute()
     ensures { (fresh : ℕ → List ℕ) (ty : IrType) (k at : ℕ) (p : Polynomial) (fuel : ℕ)
         (around : List Iteration) (env : List Binding) (s : State)
         → IsInSymbols p → AreInFront at p
-        → IsComputed ty at p env s (run_ops (expansion fresh ty k at p) fuel at around env s) }
+        → IsComputed ty at p env around s
+        (run_ops (expansion fresh ty k at p) fuel at around env s) }
 {}
