@@ -1,12 +1,14 @@
 -- A tree is expandable where its variable is a symbol of the type, and each place is expandable.
-use Rattle.std.proofs.Common.{◌≡◌, ℕ, ◌+◌, ◌<◌, ◌≤◌, inl, inr, List, refl, ap, ◌∙◌, sym, subst, length, get_or, drop, IsTrue, ◌↔◌, false, Bool}
+use Rattle.std.proofs.Common.{◌≡◌, ℕ, Some, ◌/◌, ◌+◌, ◌<◌, ◌≤◌, inl, inr, List, refl, ap, ◌∙◌, sym, subst, length, get_or, drop, IsTrue, ◌↔◌, false, Bool}
+use Rattle.mlir_ir.specs.Values.{func_values, type_at}
 use Rattle.mlir_ir.specs.declared.types.Func.{Func}
 use Rattle.mlir_ir.specs.declared.types.IrType.{IrType}
 use Rattle.scev_tree.specs.declared.tree.Tree.{Tree, Num}
-use Rattle.scev_tree.specs.Polynomial.{Polynomials, ext}
+use Rattle.scev_tree.specs.Polynomial.{Polynomial, Polynomials, ext}
+use Rattle.scev_tree.specs.Standing.{Stands}
 use Rattle.scev_tree.specs.Tree.{polynomial_of, polynomials}
 use Rattle.scev_tree.proofs.ListedTrees.{polynomial_of_num}
-use Rattle.pass_expand.specs.Expandable.{IsSymbolAt, IsExpandable, AreExpandable}
+use Rattle.pass_expand.specs.Expandable.{IsInSymbols, IsSymbolAt, IsExpandable, AreExpandable}
 use Rattle.pass_expand.proofs.PlacesFrom.{place_from, places_end}
 
 pub is_false : (b : Bool) (P : Type 0) → b ≡ false → (P → ⊥) → (IsTrue b ↔ P)
@@ -42,3 +44,11 @@ module _ (f : Func) (ty : IrType) where
 
   pub none_expandable : (ts : List Tree) (i : ℕ) → length ts ≤ i → AreExpandable f ty (polynomials (drop i ts))
   none_expandable ts i le = subst (AreExpandable f ty) (sym (places_end ts i le)) (λ x s. absurd s)
+
+  -- what expansions and their types ask of an expression
+
+  pub expandable_plain : (p : Polynomial) → IsExpandable f ty p → IsInSymbols p
+  expandable_plain p h x s = (h x s).0
+
+  pub expandable_types : (p : Polynomial) → IsExpandable f ty p → (x : ℕ) → Stands x p → type_at (func_values f) (x / 2) ≡ Some ty
+  expandable_types p h x s = (h x s).1

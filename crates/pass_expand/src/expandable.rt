@@ -1,4 +1,4 @@
-ghost use Rattle.std.specs.Prelude.{◌≡◌, ℕ, IsTrue, ◌↔◌, Some, MatchOption};
+ghost use Rattle.std.specs.Prelude.{◌≡◌, IsTrue, ◌↔◌, Some};
 ghost use Rattle.pass_expand.specs.Expandable.{IsExpandable, AreExpandable, IsSymbolAt};
 ghost use Rattle.mlir_ir.specs.Values.{func_values, type_at};
 ghost use Rattle.scev_tree.specs.Polynomial.{variable_of};

@@ -1,4 +1,4 @@
-ghost use Rattle.std.specs.Prelude.{◌≡◌, ◌+◌, false, reverse, length, IfOk, OnOk, Option, Some, ◌∷◌, []};
+ghost use Rattle.std.specs.Prelude.{◌≡◌, ◌+◌, false, reverse, length, IfOk, OnOk, Some, ◌∷◌, []};
 ghost use Rattle.pass_expand.specs.Added.{Adds};
 ghost use Rattle.pass_expand.specs.Terms.{term};
 ghost use Rattle.pass_expand.specs.Expanded as spec;
