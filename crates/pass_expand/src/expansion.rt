@@ -31,7 +31,8 @@ impl Sum {
         ensures symbols { self.new.symbols.items ≡ self.old.symbols.items }
         ensures value { OnOk result (self.new.value ≡ spec.sum_after out.old.at self.old.value
             (terms (num v) (reverse self.old.symbols.items))) }
-        ensures built { OnOk result (Adds out.old self.old.ty (spec.steps self.old.ty out.old.at self.old.value
+        ensures built { OnOk result (Adds out.old self.old.ty
+            (spec.steps self.old.ty out.old.at self.old.value
             (terms (num v) (reverse self.old.symbols.items))) out.new) }
     {
         if v != 0 {
@@ -51,7 +52,8 @@ impl Sum {
         ensures symbols { OnOk result (self.new.symbols.items ≡ self.old.symbols.items) }
         ensures value { OnOk result (self.new.value ≡ spec.sum_after out.old.at self.old.value
             (terms (polynomial_of t.now) (reverse self.old.symbols.items))) }
-        ensures built { OnOk result (Adds out.old self.old.ty (spec.steps self.old.ty out.old.at self.old.value
+        ensures built { OnOk result (Adds out.old self.old.ty
+            (spec.steps self.old.ty out.old.at self.old.value
             (terms (polynomial_of t.now) (reverse self.old.symbols.items))) out.new) }
     {
         match t {
@@ -82,7 +84,8 @@ impl Sum {
         ensures value { OnOk result (self.new.value ≡ spec.sum_after out.old.at self.old.value
             (place_terms (variable_of false x.0) (polynomials ts.now)
             (reverse self.old.symbols.items))) }
-        ensures built { OnOk result (Adds out.old self.old.ty (spec.steps self.old.ty out.old.at self.old.value
+        ensures built { OnOk result (Adds out.old self.old.ty
+            (spec.steps self.old.ty out.old.at self.old.value
             (place_terms (variable_of false x.0) (polynomials ts.now)
             (reverse self.old.symbols.items))) out.new) }
     {

@@ -19,7 +19,8 @@ fn push_products(
     requires anew { out.old.fresh.kept ≡ false }
     requires behind { value.0 + 1 ≡ out.old.at }
     ensures label { IfOk result (λ l. l.0 ≡ value.0 + length symbols.now) }
-    ensures built { OnOk result (Adds out.old ty.now (spec.products value.0 (reverse symbols.now)) out.new) }
+    ensures built { OnOk result (Adds out.old ty.now
+        (spec.products value.0 (reverse symbols.now)) out.new) }
 {
     let mut value = value;
     let count = symbols.len();
@@ -39,7 +40,8 @@ fn push_term(
 ) -> Result<Label, AllocError>
     requires anew { out.old.fresh.kept ≡ false }
     ensures label { IfOk result (λ l. l.0 ≡ out.old.at + length symbols.now) }
-    ensures built { OnOk result (Adds out.old ty.now (spec.term_steps ty.now out.old.at (term coefficient (reverse symbols.now))) out.new) }
+    ensures built { OnOk result (Adds out.old ty.now
+        (spec.term_steps ty.now out.old.at (term coefficient (reverse symbols.now))) out.new) }
 {
     let value = out.constant(alloc, *ty, u128::from(coefficient))?;
     push_products(alloc, out, ty, value, symbols)
