@@ -13,6 +13,7 @@ mod places;
 mod renaming;
 mod replacing;
 mod same;
+mod scope_search;
 mod taken;
 
 pub use building::Out;
@@ -24,3 +25,4 @@ pub use places::{advance, found_for, found_loop, is_loop, labels_in, pass_kind};
 pub use renaming::{Renaming, Span};
 pub use replacing::replace;
 pub use same::{region_of, same_arg, same_args, same_labels, same_packs};
+pub use scope_search::scope_of;
