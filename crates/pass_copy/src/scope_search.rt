@@ -232,6 +232,7 @@ fn left_in_item(at: u32, label: Label) -> Option<u32>
 
 /// The type of x behind the operations of an item that begins with the label `at`, where it has the
 /// type `known` in front of them.
+#[tactic(auto, using(crate::proofs::ItemScopes::behind_other, crate::proofs::ItemScopes::behind_own))]
 fn type_behind(at: u32, ops: &[Op], known: Option<IrType>, x: Label) -> Option<IrType>
     requires { labels_of (view_ops ops.now) ≤ label_limit }
     ensures { IsTypeBehind x.0 known at (view_ops ops.now) result }
