@@ -1,5 +1,7 @@
 -- A loop that is sought in operations one after another, with the type that a value has in the scope of each.
-use Rattle.std.proofs.Common.{◌≡◌, ℕ, suc, ◌+◌, ◌-◌, ◌<◌, ◌≤◌, inl, inr, true, List, [], ◌∷◌, length, get_or, drop, drop-cons, add-one, refl, ap, ◌∙◌, sym, subst, arith, Option, Some, None}
+use Rattle.std.proofs.Common.{◌≡◌, ℕ, suc, ◌+◌, ◌-◌, ◌<◌, ◌≤◌, ◌==◌, ◌&&◌, inl, inr, true, false, List, [], ◌∷◌, length, get_or, drop, drop-cons, add-one, refl, ap, ◌∙◌, sym, subst, arith, Option, Some, None}
+use Rattle.std.proofs.lemmas.Bool.{and_parts, eq-eqb}
+use Rattle.std.proofs.lemmas.Bool.Decides.{nat_tests}
 use Rattle.std.proofs.lemmas.List.{drop_all}
 use Rattle.std.specs.Option.{option_or}
 use Rattle.arith_word.specs.declared.label.Label.{Label}
@@ -43,8 +45,11 @@ module _ (t x : ℕ) (first : Option IrType) (begin : ℕ) (whole : OpList) (kno
       (dc ∙ ap (λ (y : Op). y ∷ drop (suc i) ops) (sym e)) sought
 
   -- the first of what is left is the loop
-  pub sought_here : left ≡ 0 → is_loop kind ≡ true → Finds t x first begin whole (Within known)
-  sought_here z l =
+  pub sought_here : (is_loop kind && left == 0) ≡ true → Finds t x first begin whole (Within known)
+  sought_here is =
+      let both = and_parts (is_loop kind) (left == 0) is in
+      let l = both.0 in
+      let z : left ≡ 0 = let e = both.1 in grind (arith, nat_tests) in
       let some = loop_labels kind l in
       let n = left_in.labels in (
         omega (arith, some, n, z),
@@ -55,7 +60,12 @@ module _ (t x : ℕ) (first : Option IrType) (begin : ℕ) (whole : OpList) (kno
         )),
       )
 
-  module _ (other : left ≡ 0 → is_loop kind ≡ true → ⊥) where
+  module _ (is_not : (is_loop kind && left == 0) ≡ false) where
+    other : left ≡ 0 → is_loop kind ≡ true → ⊥
+    other z l =
+        let e : true ≡ false = rw (l, eq-eqb left 0 z) at is_not in
+        cc
+
     -- the loop can stand in it alone
     pub sought_inside : (ty : Option IrType) → FindsInside t x known left kind (Within ty) → Finds t x first begin whole (Within ty)
     sought_inside ty f =

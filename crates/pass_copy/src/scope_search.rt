@@ -1,4 +1,4 @@
-ghost use Rattle.std.specs.Prelude.{◌≡◌, ◌+◌, ◌<◌, ◌≤◌, ◌⊎◌, length, MatchOption, [], ◌∷◌};
+ghost use Rattle.std.specs.Prelude.{◌≡◌, ◌==◌, ◌&&◌, ◌+◌, ◌<◌, ◌≤◌, ◌⊎◌, length, MatchOption, [], ◌∷◌};
 ghost use Rattle.std.specs.List.{All};
 ghost use Rattle.std.specs.Option.{option_or};
 ghost use Rattle.arith_word.specs.Labels.{index_count};
@@ -9,6 +9,7 @@ ghost use Rattle.mlir_ir.specs.Places.{HasFewLabels};
 ghost use Rattle.mlir_ir.specs.Rules.{arg_types};
 ghost use Rattle.mlir_ir.specs.Typed.{typed_from};
 ghost use Rattle.mlir_ir.specs.View.{rows_of, view_for, view_items, view_kind, view_ops, view_while};
+ghost use Rattle.pass_copy.specs.Replaced as spec;
 ghost use Rattle.pass_copy.specs.ScopeSearch.{Finds, FindsInside, GivesInItems, IsTopType, IsTypeBehind};
 ghost use Rattle.pass_copy.specs.Scopes.{HasScope};
 
@@ -74,6 +75,14 @@ fn either(first: Option<IrType>, other: Option<IrType>) -> Option<IrType>
     }
 }
 
+/// Whether the operation is a loop that begins with the label sought, which comes `left` labels behind
+/// the operation's first.
+fn is_sought(kind: &Kind, left: u32) -> bool
+    ensures { result ≡ (spec.is_loop (view_kind kind.now) && left == 0) }
+{
+    is_loop(kind) && left == 0
+}
+
 /// Searches operations for the loop that begins `left` labels behind their first, in a scope that
 /// gives x the type `known`.
 #[cycle(search)]
@@ -84,7 +93,7 @@ fn search_ops(ops: &[Op], left: u32, known: &Option<IrType>, target: Label, x: L
     let mut left = left;
     let mut known = *known;
     for op in ops {
-        if left == 0 && is_loop(&op.kind) {
+        if is_sought(&op.kind, left) {
             return Search::Within(known);
         }
         left = match search_inside(&op.kind, left, &known, target, x) {

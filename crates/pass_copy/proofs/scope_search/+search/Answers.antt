@@ -16,41 +16,28 @@ use Rattle.pass_copy.specs.ScopeSearch.{Finds, FindsInside}
 use Rattle.pass_copy.specs.declared.scope_search.Search.TheVariants.{Within}
 use Rattle.pass_copy.proofs.ScopeSearched.{sought_here, sought_inside, sought_result, sought_next, for_none, while_none, while_before, while_between, while_after, two_first, two_other}
 use Rattle.pass_copy.proofs.scope_search.+search.Goals as goal
-use Rattle.pass_copy.proofs.scope_search.+search.Goals.{search_ops-else-left-eq0-via-then-left-eq0+else-is_loop, search_ops-else-left-eq0-via-else-left-eq0}
 
-pub search_ops-returns-then-is_loop : goal.search_ops-returns-then-is_loop
-search_ops-returns-then-is_loop t c =
+pub search_ops-returns-then-is_sought : goal.search_ops-returns-then-is_sought
+search_ops-returns-then-is_sought t c =
     sought_here c.args.target.0 c.args.x.0 c.args.known.now c.args.left (view_ops c.args.ops.now) c.loop-op.known c.loop-op.left c.loop-op.op-index
-    c.args.ops.now c.op-item.result c.loop-op-test.true c.op-item.is c.loop-op.invariant c.if-left-eq0.true (sym c.if-is_loop.ensures)
+    c.args.ops.now c.op-item.result c.loop-op-test.true c.op-item.is c.loop-op.invariant (sym c.is_sought.ensures ∙ c.if-is_sought.true)
 
 pub search_ops-returns-in-Within : goal.search_ops-returns-in-Within
 search_ops-returns-in-Within t c =
-    let other : c.loop-op.left ≡ 0 → is_loop (view_kind c.op-item.result.kind) ≡ true → ⊥ = elim c.else-left-eq0.branch [
-      | search_ops-else-left-eq0-via-then-left-eq0+else-is_loop w ↦ (λ z l. let a = w.is_loop.ensures in let b = w.if-is_loop.false in absurd cc)
-      | search_ops-else-left-eq0-via-else-left-eq0 w ↦ (λ z l. absurd (omega (arith, z, w.if-left-eq0.false)))
-    ] in
     sought_inside c.args.target.0 c.args.x.0 c.args.known.now c.args.left (view_ops c.args.ops.now) c.loop-op.known c.loop-op.left c.loop-op.op-index
-    c.args.ops.now c.op-item.result c.loop-op-test.true c.op-item.is c.loop-op.invariant other c.in-Within.found c.in-Within.ensures
+    c.args.ops.now c.op-item.result c.loop-op-test.true c.op-item.is c.loop-op.invariant (sym c.is_sought.ensures ∙ c.if-is_sought.false) c.in-Within.found c.in-Within.ensures
 
 pub search_ops-returns-then-left-results : goal.search_ops-returns-then-left-results
 search_ops-returns-then-left-results t c =
-    let other : c.loop-op.left ≡ 0 → is_loop (view_kind c.op-item.result.kind) ≡ true → ⊥ = elim c.else-left-eq0.branch [
-      | search_ops-else-left-eq0-via-then-left-eq0+else-is_loop w ↦ (λ z l. let a = w.is_loop.ensures in let b = w.if-is_loop.false in absurd cc)
-      | search_ops-else-left-eq0-via-else-left-eq0 w ↦ (λ z l. absurd (omega (arith, z, w.if-left-eq0.false)))
-    ] in
     sought_result c.args.target.0 c.args.x.0 c.args.known.now c.args.left (view_ops c.args.ops.now) c.loop-op.known c.loop-op.left c.loop-op.op-index
-    c.args.ops.now c.op-item.result c.loop-op-test.true c.op-item.is c.loop-op.invariant other c.in-Behind.left c.in-Behind.ensures
+    c.args.ops.now c.op-item.result c.loop-op-test.true c.op-item.is c.loop-op.invariant (sym c.is_sought.ensures ∙ c.if-is_sought.false) c.in-Behind.left c.in-Behind.ensures
     (subst (λ xs. c.in-Behind.left < length xs) c.as_slice-results.ensures c.if-left-results.true)
 
 pub search_ops-loop-op-preserved : goal.search_ops-loop-op-preserved
 search_ops-loop-op-preserved t c =
-    let other : c.loop-op.left ≡ 0 → is_loop (view_kind c.op-item.result.kind) ≡ true → ⊥ = elim c.else-left-eq0.branch [
-      | search_ops-else-left-eq0-via-then-left-eq0+else-is_loop w ↦ (λ z l. let a = w.is_loop.ensures in let b = w.if-is_loop.false in absurd cc)
-      | search_ops-else-left-eq0-via-else-left-eq0 w ↦ (λ z l. absurd (omega (arith, z, w.if-left-eq0.false)))
-    ] in
     let results = c.as_slice-results.ensures in
     sought_next c.args.target.0 c.args.x.0 c.args.known.now c.args.left (view_ops c.args.ops.now) c.loop-op.known c.loop-op.left c.loop-op.op-index
-    c.args.ops.now c.op-item.result c.loop-op-test.true c.op-item.is c.loop-op.invariant other c.in-Behind.left c.in-Behind.ensures
+    c.args.ops.now c.op-item.result c.loop-op-test.true c.op-item.is c.loop-op.invariant (sym c.is_sought.ensures ∙ c.if-is_sought.false) c.in-Behind.left c.in-Behind.ensures
     c.either-known.result (c.in-Behind.left - length c.as_slice-results.result.now)
     (c.either-known.ensures ∙ rw (c.result_type.ensures, results) refl)
     (let few = c.if-left-results.false in rw (sym results) (omega (arith, few)))
