@@ -11,7 +11,6 @@ use Rattle.mlir_ir.specs.declared.types.IrType.{IrType}
 use Rattle.mlir_ir.specs.declared.types.Item.{Item}
 use Rattle.mlir_ir.specs.declared.types.Op.{Op}
 use Rattle.pass_copy.specs.ScopeSearch.{Gives, GivesInItems, Finds, IsTypeBehind, IsTopType}
-use Rattle.pass_copy.specs.declared.scope_search.Search.{Search}
 use Rattle.pass_copy.specs.declared.scope_search.Search.TheVariants.{Within, Behind}
 use Rattle.pass_copy.proofs.CarriedTypes.{typed_past}
 use Rattle.pass_copy.proofs.ItemPlaces.{ItemsFit}

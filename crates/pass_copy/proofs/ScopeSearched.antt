@@ -1,5 +1,5 @@
 -- A loop that is sought in operations one after another, with the type that a value has in the scope of each.
-use Rattle.std.proofs.Common.{◌≡◌, ℕ, suc, ◌+◌, ◌-◌, ◌<◌, ◌≤◌, ◌==◌, ◌&&◌, inl, inr, true, false, List, [], ◌∷◌, length, get_or, drop, drop-cons, add-one, refl, ap, ◌∙◌, sym, subst, arith, Option, Some, None}
+use Rattle.std.proofs.Common.{◌≡◌, ℕ, suc, ◌+◌, ◌-◌, ◌<◌, ◌≤◌, ◌==◌, ◌&&◌, inl, inr, true, false, List, [], ◌∷◌, length, get_or, drop, drop-cons, add-one, refl, ap, ◌∙◌, sym, subst, arith, Option, None}
 use Rattle.std.proofs.lemmas.Bool.{and_parts, eq-eqb}
 use Rattle.std.proofs.lemmas.Bool.Decides.{nat_tests}
 use Rattle.std.proofs.lemmas.List.{drop_all}
@@ -7,7 +7,7 @@ use Rattle.std.specs.Option.{option_or}
 use Rattle.arith_word.specs.declared.label.Label.{Label}
 use Rattle.mlir_ir.specs.Operations.{OpKind, If, For, While, OpList, nil, next, labels_of, inner_labels}
 use Rattle.mlir_ir.specs.Rules.{arg_types}
-use Rattle.mlir_ir.specs.Typed.{Types, typed_from, with_types}
+use Rattle.mlir_ir.specs.Typed.{typed_from, with_types}
 use Rattle.mlir_ir.specs.View.{rows_of, view_kind, view_ops, view_row}
 use Rattle.mlir_ir.specs.declared.types.Arg.{Arg}
 use Rattle.mlir_ir.specs.declared.types.IrType.{IrType}
@@ -15,7 +15,7 @@ use Rattle.mlir_ir.specs.declared.types.Op.{Op}
 use Rattle.mlir_ir.specs.declared.types.Kind.{If', Some'}
 use Rattle.mlir_ir.specs.declared.types.Region.{Region, Region'}
 use Rattle.pass_copy.specs.Replaced.{is_loop}
-use Rattle.pass_copy.specs.ScopeSearch.{Gives, GivesIn, GivesInside, Finds, FindsInside}
+use Rattle.pass_copy.specs.ScopeSearch.{Gives, GivesIn, Finds, FindsInside}
 use Rattle.pass_copy.specs.declared.scope_search.Search.{Search}
 use Rattle.pass_copy.specs.declared.scope_search.Search.TheVariants.{Within, Behind}
 use Rattle.pass_copy.proofs.ScopesAway.{away_in, away_inside, inside_loop}

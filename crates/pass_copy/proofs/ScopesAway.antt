@@ -1,5 +1,5 @@
 -- Where no loop can begin with a label, each property holds of the scopes there.
-use Rattle.std.proofs.Common.{◌≡◌, ℕ, ◌+◌, ◌<◌, ◌≤◌, inl, inr, true, List, [], ◌∷◌, length, refl, arith}
+use Rattle.std.proofs.Common.{◌≡◌, ℕ, ◌+◌, ◌<◌, ◌≤◌, inl, true, List, [], ◌∷◌, length, arith}
 use Rattle.arith_word.specs.Labels.{label_at}
 use Rattle.mlir_ir.specs.Operations.{OpKind, Simple, If, For, While, OpList, nil, next, labels_of, inner_labels}
 use Rattle.mlir_ir.specs.Rules.{arg_types}

@@ -12,7 +12,7 @@ use Rattle.pass_copy.specs.declared.scope_search.Search.TheVariants.{Within, Beh
 abbrev pub Gives : ℕ → Option IrType → Types → Type 0
 Gives x ty T = T x ≡ ty
 
--- wherever the loop with label t begins, `left` labels behind the first of operations in a scope that gives x the type `known`, the scope gives it ty
+-- the scope of the loop with label t gives x the type ty, in operations whose scope gives it `known`; the loop begins `left` labels behind their first
 abbrev pub GivesIn : ℕ → ℕ → Option IrType → ℕ → OpList → Option IrType → Type 0
 GivesIn t x known left ops ty = (T : Types) (at : ℕ) → T x ≡ known → at + left ≡ t → ScopeIn t (Gives x ty) T at ops
 

@@ -75,8 +75,7 @@ fn either(first: Option<IrType>, other: Option<IrType>) -> Option<IrType>
     }
 }
 
-/// Whether the operation is a loop that begins with the label sought, which comes `left` labels behind
-/// the operation's first.
+/// Whether the operation is the loop that begins `left` labels behind the operation's first.
 fn is_sought(kind: &Kind, left: u32) -> bool
     ensures { result ≡ (spec.is_loop (view_kind kind.now) && left == 0) }
 {
@@ -207,8 +206,8 @@ fn skip_inside(kind: &Kind, left: u32) -> Option<u32>
     }
 }
 
-/// The type of the result that comes `left` labels behind the first of operations; `None` where that
-/// label is no result of theirs, as in their regions.
+/// The type of the result that comes `left` labels behind the first of operations; `None` where
+/// they have no such result.
 fn top_type(ops: &[Op], left: u32) -> Option<IrType>
     ensures { IsTopType left (view_ops ops.now) result }
 {
@@ -280,7 +279,7 @@ fn scope_in_items(
 }
 
 /// The type of the value with label x where the loop with the label `target` begins; `None` where
-/// no such value is in scope there.
+/// no such value is in scope there. Where no loop has that label the result says nothing.
 pub fn scope_of(f: &Func, target: Label, x: Label) -> Option<IrType>
     requires { IsWellFormed f.now }
     ensures { HasScope f.now target.0 (λ T. T x.0 ≡ result) }

@@ -1,17 +1,13 @@
 -- Where the loop can stand, by the operation or the region that the search is at.
-use Rattle.std.proofs.Common.{◌≡◌, ◌+◌, ◌-◌, ◌<◌, ◌≤◌, length, get_or, ◌∙◌, sym, subst, refl, arith, rules, true, false, None}
+use Rattle.std.proofs.Common.{◌≡◌, ◌+◌, ◌-◌, ◌<◌, length, ◌∙◌, sym, subst, refl, arith, rules, None}
 use Rattle.std.proofs.lemmas.Grind.{common_steps}
-use Rattle.std.specs.Option.{option_or}
 use Rattle.mlir_ir.proofs.PartViews.{for_parts, while_parts}
 use Rattle.mlir_ir.specs.Operations.{OpKind}
-use Rattle.mlir_ir.specs.Rules.{arg_types}
-use Rattle.mlir_ir.specs.Typed.{typed_from}
 use Rattle.mlir_ir.specs.View.{ends_of, rows_of, view_kind, view_ops}
 use Rattle.mlir_ir.specs.declared.types.ForParts.{out-ForParts}
 use Rattle.mlir_ir.specs.declared.types.Kind.{Kind, If', Some'}
 use Rattle.mlir_ir.specs.declared.types.Region.{the_lemmas}
 use Rattle.mlir_ir.specs.declared.types.WhileParts.{out-WhileParts}
-use Rattle.pass_copy.specs.Replaced.{is_loop}
 use Rattle.pass_copy.specs.ScopeSearch.{Finds, FindsInside}
 use Rattle.pass_copy.specs.declared.scope_search.Search.TheVariants.{Within}
 use Rattle.pass_copy.proofs.ScopeSearched.{sought_here, sought_inside, sought_result, sought_next, for_none, while_none, while_before, while_between, while_after, two_first, two_other}
@@ -103,10 +99,10 @@ search_while-returns t c =
     let args = c.as_slice-args.ensures in
     let le = c.if-left-args.false in
     let m : c.args.left - length c.as_slice-args.result.now - 1 + 1 + length q.args ≡ c.args.left = rw (sym args) (omega (arith, le)) in
-    let is = c.either-before.ensures ∙ rw (c.arg_type.ensures, args) refl in
     let after_args = c.as_slice-after_args.ensures in
     let le2 = c.if-left-after_args.false in
     let m2 : c.in-Behind.left - length c.as_slice-after_args.result.now + length q.after_args ≡ c.in-Behind.left = rw (sym after_args) (omega (arith, le2)) in
+    let is = c.either-before.ensures ∙ rw (c.arg_type.ensures, args) refl in
     let is2 = c.either-after.ensures ∙ rw (c.arg_type-2.ensures, after_args) refl in
     subst (λ (k : OpKind). FindsInside c.args.target.0 c.args.x.0 c.args.known.now c.args.left k c.search_region-2.result) (sym (while_parts c.args.parts.now))
     (while_after c.args.target.0 c.args.x.0 c.args.known.now c.args.left q.args q.inits (rows_of q.before) (ends_of q.before) q.cond q.after_args (rows_of q.after) (ends_of q.after)

@@ -2,7 +2,6 @@
 use Rattle.std.proofs.Common.{◌≡◌, ◌∙◌, refl, sym, subst}
 use Rattle.std.specs.List.{All}
 use Rattle.std.specs.Prelude.{IfSome}
-use Rattle.arith_word.specs.Labels.{label_at}
 use Rattle.mlir_ir.proofs.LabelsFit.{labels_fit}
 use Rattle.mlir_ir.specs.Places.{HasFewLabels}
 use Rattle.mlir_ir.specs.Typed.{args_typed}
