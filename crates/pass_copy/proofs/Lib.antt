@@ -37,3 +37,7 @@ pub mod FreshNumbers
 pub mod Finding
 pub mod BuiltBehind
 pub mod LabelLists
+pub mod TypesFrom
+pub mod ScopesAway
+pub mod ScopeSearched
+pub mod ItemScopes

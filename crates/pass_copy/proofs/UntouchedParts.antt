@@ -73,11 +73,11 @@ module _ (t : ℕ) (o : Operation) where
 abbrev pub Away : ℕ → ℕ → ℕ → Type 0
 Away t at n = (t < at) ⊎ (at + n ≤ t)
 
-away_part : (t at n b m : ℕ) → at ≤ b → b + m ≤ at + n → Away t at n → Away t b m
+pub away_part : (t at n b m : ℕ) → at ≤ b → b + m ≤ at + n → Away t at n → Away t b m
 away_part t at n b m l r (inl a) = inl (omega arith)
 away_part t at n b m l r (inr a) = inr (omega arith)
 
-away_other : (t at n : ℕ) → 0 < n → Away t at n → at ≡ t → ⊥
+pub away_other : (t at n : ℕ) → 0 < n → Away t at n → at ≡ t → ⊥
 away_other t at n l (inl a) e = omega arith
 away_other t at n l (inr a) e = omega arith
 

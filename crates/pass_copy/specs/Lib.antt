@@ -10,3 +10,4 @@ pub mod Listed
 pub mod Copied
 pub mod Places
 pub mod Built
+pub mod ScopeSearch

@@ -14,6 +14,7 @@ mod renaming;
 mod replacing;
 mod room;
 mod same;
+mod scope_search;
 mod taken;
 
 pub use building::Out;
@@ -26,3 +27,4 @@ pub use renaming::{Renaming, Span};
 pub use replacing::replace;
 pub use room::item_labels;
 pub use same::{region_of, same_arg, same_args, same_labels, same_packs};
+pub use scope_search::scope_of;
