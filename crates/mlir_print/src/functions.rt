@@ -145,3 +145,15 @@ pub fn print_func(alloc: Global, m: &Module, f: u16) -> Result<Option<String>, A
     push_func(alloc, &mut out, funcs, &funcs[at])?;
     Ok(Some(out))
 }
+
+/// The canonical text of a well-formed function that stands beside the functions of a module, which
+/// its calls name: of one that a pass has made of theirs, say. It fails only where memory runs out.
+pub fn print_beside(alloc: Global, m: &Module, f: &Func) -> Result<String, AllocError>
+    requires formed { IsWellFormed f.now }
+    ensures { IfOk result
+        (λ text. string_bytes text ≡ func_text (map (λ g. g.name) m.now.funcs) f.now) }
+{
+    let mut out = String::new(alloc);
+    push_func(alloc, &mut out, m.funcs.as_slice(), f)?;
+    Ok(out)
+}

@@ -16,5 +16,5 @@ mod tests;
 mod uses;
 mod words;
 
-pub use functions::{print, print_func};
+pub use functions::{print, print_beside, print_func};
 pub use naming::{Names, Slot};

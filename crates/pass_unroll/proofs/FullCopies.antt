@@ -1,5 +1,5 @@
 -- The copies of a loop that is unrolled in full, one behind another.
-use Rattle.std.proofs.Common.{◌≡◌, ℕ, suc, ◌+◌, List, refl, ap, ◌∙◌, sym, subst, arith}
+use Rattle.std.proofs.Common.{◌≡◌, ℕ, suc, ◌+◌, List, ◌∙◌, sym, subst, arith}
 use Rattle.arith_word.specs.declared.label.Label.{Label}
 use Rattle.mlir_ir.specs.Operations.{OpList, nil, labels_of, joined}
 use Rattle.pass_copy.specs.Renamed.{anew, names_of}

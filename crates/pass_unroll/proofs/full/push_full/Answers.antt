@@ -1,4 +1,4 @@
-use Rattle.std.proofs.Common.{◌≡◌, ◌-◌, ◌+◌, ℕ, List, suc, subst, refl, arith, sym, ap, ◌∙◌}
+use Rattle.std.proofs.Common.{◌≡◌, ◌-◌, ◌+◌, ℕ, List, suc, subst, arith, ap, ◌∙◌}
 use Rattle.arith_word.specs.declared.label.Label.{Label}
 use Rattle.pass_unroll.specs.Built.{loop_of}
 use Rattle.pass_copy.specs.Built.{IsBehind, fresh_at}
@@ -18,7 +18,7 @@ loop-turn-preserved c =
     let below = c.loop-turn-test.true in
     let count : n ≡ suc m = omega arith in
     let out1 = c.constant.new.self in
-    let out2 = c.copy.new.self in
+    let out2 = c.push_copy.new.out in
     let first = c.in_ok-variable.ensures.built in
     let variable = c.in_ok-variable.variable in
     let args : c.as_slice-in-loop-turn.result.now ≡ c.loop-turn.args = c.as_slice-in-loop-turn.ensures in

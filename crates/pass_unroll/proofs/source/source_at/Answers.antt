@@ -1,4 +1,4 @@
-use Rattle.std.proofs.Common.{◌≡◌, ◌+◌, length, List, arith, ap, sym, ◌∙◌}
+use Rattle.std.proofs.Common.{length, List, arith, ap, sym, ◌∙◌}
 use Rattle.mlir_ir.specs.Operations.{labels_of}
 use Rattle.mlir_ir.specs.View.{view_ops}
 use Rattle.mlir_ir.specs.declared.types.Arg.{Arg}

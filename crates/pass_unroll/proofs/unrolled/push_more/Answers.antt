@@ -25,7 +25,7 @@ loop-j-preserved c =
     let first = subst (λ (v : ℕ). IsBehind c.loop-j.out (constant (fresh_at c.loop-j.out c.loop-j.out.fresh.given) o.iv.ty v nil) out1) product c.in_ok-steps.ensures.built in
     let second = c.in_ok-value.ensures.built in
     let args : c.as_slice.result.now ≡ c.loop-j.args = c.as_slice.ensures in
-    let third = subst (λ (z : List Label). IsBehind out2 (copy (fresh_at out2) t o out2.fresh.given c.in_ok-value.value z out2.at) c.copy.new.self) args c.in_ok-args.ensures.built in
+    let third = subst (λ (z : List Label). IsBehind out2 (copy (fresh_at out2) t o out2.fresh.given c.in_ok-value.value z out2.at) c.push_copy.new.out) args c.in_ok-args.ensures.built in
     let ends = λ (fresh : ℕ → List ℕ). c.in_ok-args.ensures.ends fresh ∙ ap (λ (z : List Label). copy_ends fresh t o c.in_ok-value.value z out2.at) args in
     let value : c.in_ok-value.value.0 ≡ c.loop-j.out.at + 1 = c.in_ok-value.ensures.label ∙ first.at in
     let at : c.sum.new.self.at ≡ c.loop-j.out.at + 2 = let x = second.at in let y = first.at in omega arith in
@@ -36,8 +36,8 @@ loop-j-preserved c =
           c.loop-j.args c.in_ok-args.args count c.loop-j.invariant.same first c.in_ok-steps.ensures.label second c.in_ok-value.ensures.label
           third (ends (fresh_at c.args.out.now)) rest);
       ends = λ fresh.
-          more_given t o (c.args.by.now.factor - c.loop-j.j) m c.loop-j.out c.loop-j.out c.sum.new.self c.copy.new.self fresh c.in_ok-value.value c.loop-j.args c.in_ok-args.args _ count
-          at value (copied_at c.sum.new.self c.copy.new.self t o c.in_ok-value.value c.loop-j.args third) (ends fresh) (c.loop-j.invariant.ends fresh);
+          more_given t o (c.args.by.now.factor - c.loop-j.j) m c.loop-j.out c.loop-j.out c.sum.new.self c.push_copy.new.out fresh c.in_ok-value.value c.loop-j.args c.in_ok-args.args _ count
+          at value (copied_at c.sum.new.self c.push_copy.new.out t o c.in_ok-value.value c.loop-j.args third) (ends fresh) (c.loop-j.invariant.ends fresh);
       same = third.names.same ∙ second.names.same ∙ first.names.same ∙ c.loop-j.invariant.same;
       anew = third.names.kept ∙ second.names.kept ∙ first.names.kept ∙ c.loop-j.invariant.anew;
     }

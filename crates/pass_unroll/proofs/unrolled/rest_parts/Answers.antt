@@ -33,6 +33,6 @@ pub returns-clause-at : goal.returns-clause-at
 returns-clause-at c =
     let source = c.args.source.now in
     let o = loop_of source in
-    let x = copied_at _ c.copy.new.self source.start.0 o (record { 0 = c.advance.new.at }) c.as_slice-2.result.now c.in_ok-ends.ensures.built in
+    let x = copied_at _ c.push_copy.new.out source.start.0 o (record { 0 = c.advance.new.at }) c.as_slice-2.result.now c.in_ok-ends.ensures.built in
     let y = c.in_ok-values.ensures.at in
     omega arith
