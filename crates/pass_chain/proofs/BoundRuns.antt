@@ -24,7 +24,7 @@ use Rattle.scev_soundness.proofs.Branches.{branch_lengths}
 use Rattle.scev_soundness.proofs.Counted.{numbers_length}
 use Rattle.scev_soundness.proofs.Scopes.{with_more}
 use Rattle.scev_soundness.proofs.LoopUses.{for_inits, for_results, for_ends, while_inits, while_passed, while_params, while_ends}
-use Rattle.pass_copy.specs.Arrivals.{Claim, AllHoldAt}
+use Rattle.pass_copy.specs.Reported.{Claim, AllHoldAt}
 use Rattle.pass_chain.proofs.Positions.{Extends, with_extends, after_extends, AtEach, AtEachInside, AtEachItem}
 
 -- ---- values in scope that are bound

@@ -28,7 +28,7 @@ use Rattle.scev_soundness.specs.Holding.{HasValue, IsBound, AllHold, point}
 use Rattle.scev_soundness.proofs.Functions.{function_sound}
 use Rattle.scev_soundness.proofs.LoopUses.{for_bounds}
 use Rattle.scev_soundness.proofs.Rounds.{last_inside}
-use Rattle.pass_copy.specs.Arrivals.{Claim, AllHoldAt, HoldsIn}
+use Rattle.pass_copy.specs.Reported.{Claim, AllHoldAt, HoldsIn}
 use Rattle.pass_copy.specs.Replaced.{Operation, StandsInBody, StandsAt}
 use Rattle.pass_unroll.specs.Copies.{ForLoop, operation_of}
 use Rattle.pass_unroll.specs.Planned.{Turns, HasHeader, IsPlanned}

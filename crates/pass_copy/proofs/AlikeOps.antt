@@ -11,9 +11,9 @@ use Rattle.mlir_ir.specs.declared.types.Pack.{Pack}
 use Rattle.mlir_ir.specs.Operations.{SimpleOp, Const, Bin, Cast, Cmp, Select, Call, OpKind, Simple, If, For, While, OpList, nil, next, labels_of, inner_labels, joined}
 use Rattle.mlir_ir.specs.Runs.{Binding, State}
 use Rattle.mlir_ir.specs.Typed.{simple_counts}
-use Rattle.pass_copy.specs.Arrivals.{Claim}
+use Rattle.pass_copy.specs.Reported.{Claim}
 use Rattle.pass_copy.proofs.RunEnds.{Ending, ends_ops, ends_kind}
-use Rattle.pass_copy.proofs.Claims.{Says, op_claim}
+use Rattle.pass_copy.proofs.Claims.{Says, IsTold}
 use Rattle.pass_copy.proofs.Ahead.{Dir, St, Ahead}
 use Rattle.pass_copy.proofs.Bindings.{Scope, Same, Below, In, All2, pairs}
 
@@ -31,7 +31,7 @@ KeepPace d n n' k ctx ctx1 says go go' =
 -- other operations do what an operation with these results does, and take k units less
 abbrev pub Works : Claim → ℕ → Scope → ℕ → ℕ → List IrType → OpKind → OpList → Scope → Type 0
 Works H k ctx at at' results kind others ctx1 =
-    (d : Dir) (n n' : ℕ) → KeepPace d n n' k ctx ctx1 (op_claim H kind n at) (ends_kind kind results n at) (ends_ops others n' at')
+    (d : Dir) (n n' : ℕ) → KeepPace d n n' k ctx ctx1 (IsTold H kind results n at) (ends_kind kind results n at) (ends_ops others n' at')
 
 -- the same operation on uses that stand for one another
 pub data AlikeSimple (ctx : Scope) : SimpleOp → SimpleOp → Type 0 where

@@ -1,18 +1,23 @@
--- A claim along a run without reports: it holds at each operation that the run comes to.
+-- A claim along a run without reports: it holds of all that is reported from each operation to its end.
 use Rattle.std.proofs.Common.{◌≡◌, ℕ, ◌+◌, ◌==◌, zero, suc, Bool, true, false, List, [], ◌∷◌, ◌++◌, length, if◌then◌else◌, subst}
 use Rattle.std.proofs.lemmas.Bool.{ne_eqb}
 use Rattle.arith_word.specs.Labels.{label_at}
 use Rattle.arith_word.specs.declared.label.Label.{Label}
 use Rattle.mlir_ir.specs.declared.types.IrType.{IrType}
 use Rattle.mlir_ir.specs.Operations.{OpKind, Simple, If, For, While, OpList, nil, next, labels_of, inner_labels}
-use Rattle.mlir_ir.specs.Runs.{Number, Binding, Iteration, Report, State, Cut, End, Done, Stopped, Segment, look, numbers_of, is_false, binds, run_then, reports_then, stops, defines, definitions, tick, hands, Running, Place, leaves, in_turn, counted, repeated, arrives, run_ops, run_kind, run_items}
+use Rattle.mlir_ir.specs.Runs.{Number, Binding, Iteration, Report, arrived, State, Cut, End, Done, Stopped, Segment, look, numbers_of, is_false, binds, run_then, reports_then, stops, defines, definitions, tick, hands, Running, Place, leaves, in_turn, counted, repeated, arrives, run_ops, run_kind, run_items}
 use Rattle.mlir_ir.proofs.RunTraces.{for_turn, while_turn}
-use Rattle.pass_copy.specs.Arrivals.{Claim, AllHoldAt}
+use Rattle.pass_copy.specs.Reported.{Claim, AllHoldAt}
 use Rattle.pass_copy.proofs.RunEnds.{Ending, EndsAs, spent, goes_on, stepped, ends_ops, ends_kind, ops_ends, kind_ends}
 
 -- what is said of the values in scope and the state where a run begins
 abbrev pub Says : Type 1
 Says = List Binding → State → Type 0
+
+-- it holds of all that a run reports from where it comes to an operation until that ends
+abbrev pub IsTold : Claim → OpKind → List IrType → ℕ → ℕ → List Binding → State → Type 0
+IsTold H kind results fuel at env s =
+    (around : List Iteration) × AllHoldAt H (arrived at env around ∷ (run_kind kind results fuel at around env s).reports)
 
 -- what is said of an end, if the run gets there
 abbrev pub after : End → Says → Type 0
@@ -39,7 +44,7 @@ abbrev mutual
   pub ops_claim : Claim → OpList → ℕ → ℕ → List Binding → State → Type 0
   ops_claim H nil fuel at env s = Unit {0}
   ops_claim H (next packs results kind rest) fuel at env s =
-      (H at env × kind_claim H kind fuel at env s)
+      (IsTold H kind results fuel at env s × kind_claim H kind fuel at env s)
       × after (ends_kind kind results fuel at env s) (ops_claim H rest fuel (at + (inner_labels kind + length results)))
 
   -- in the regions of an operation
@@ -57,9 +62,9 @@ abbrev mutual
       (ops_claim H later fuel (at + 1 + length args + labels_of before + length after_args)) (at + 1)
       (at + 1 + length args + labels_of before) cond passed ends env (numbers_of env inits) s
 
--- where a run comes to an operation, and in its regions
-abbrev pub op_claim : Claim → OpKind → ℕ → ℕ → List Binding → State → Type 0
-op_claim H kind fuel at env s = H at env × kind_claim H kind fuel at env s
+-- of an operation, and in its regions
+abbrev pub op_claim : Claim → OpKind → List IrType → ℕ → ℕ → List Binding → State → Type 0
+op_claim H kind results fuel at env s = IsTold H kind results fuel at env s × kind_claim H kind fuel at env s
 
 abbrev pub items_claim : Claim → ℕ → ℕ → List OpList → ℕ → List Binding → State → Type 0
 items_claim H func k [] fuel env s = Unit {0}
@@ -172,7 +177,7 @@ mutual
       (run_ops rest fuel (at + w) around) (ops_claim H rest fuel (at + w)) (kind_ends kind results fuel at around env s) h
       (λ env1 s1 h1. ops_claimed H rest fuel (at + w) around env1 s1 h1) in
       let here = both.0 in
-      ((here.0, kind_claimed H kind results fuel at around env s here.1), both.1)
+      (((around, here), kind_claimed H kind results fuel at around env s here.1), both.1)
 
   pub kind_claimed : (H : Claim) (kind : OpKind) (results : List IrType) (fuel at : ℕ) (around : List Iteration) (env : List Binding) (s : State)
       → AllHoldAt H (run_kind kind results fuel at around env s).reports → kind_claim H kind fuel at env s
@@ -201,6 +206,11 @@ mutual
       (λ inside env1 s1. ops_ends before fuel in_before inside env1 s1) (λ inside env1 s1. ops_ends later fuel in_after inside env1 s1)
       (λ inside env1 s1 h1. ops_claimed H before fuel in_before inside env1 s1 h1)
       (λ inside env1 s1 h1. ops_claimed H later fuel in_after inside env1 s1 h1) h
+
+-- in the regions of an operation of which it is told
+pub told_inside : (H : Claim) (kind : OpKind) (results : List IrType) (fuel at : ℕ) (env : List Binding) (s : State)
+    → IsTold H kind results fuel at env s → kind_claim H kind fuel at env s
+told_inside H kind results fuel at env s h = kind_claimed H kind results fuel at h.0 env s h.1.1
 
 pub items_claimed : (H : Claim) (func k : ℕ) (items : List OpList) (fuel : ℕ) (env : List Binding) (s : State)
     → AllHoldAt H (run_items func k items fuel env s).reports → items_claim H func k items fuel env s

@@ -19,6 +19,8 @@ pub mod TypedRenamed
 pub mod NamedRenamed
 pub mod UntouchedParts
 pub mod ItemPlaces
+pub mod LoopScopes
+pub mod AloneLoops
 pub mod TypedReplaced
 pub mod NamedReplaced
 pub mod TypedItems

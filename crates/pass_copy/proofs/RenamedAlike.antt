@@ -10,7 +10,7 @@ use Rattle.mlir_ir.specs.declared.types.Pack.{Pack}
 use Rattle.mlir_ir.specs.Operations.{SimpleOp, Const, Bin, Cast, Cmp, Select, Call, OpKind, Simple, If, For, While, OpList, nil, next, labels_of, inner_labels}
 use Rattle.mlir_ir.specs.Rules.{arg_types}
 use Rattle.mlir_ir.specs.Typed.{Types, typed_from, with_types, knows, simple_uses, TypedOp, TypedOps, TypedRegions, types_after}
-use Rattle.pass_copy.specs.Arrivals.{Claim}
+use Rattle.pass_copy.specs.Reported.{Claim}
 use Rattle.pass_copy.specs.Renamed.{Naming, relabel, relabels, rename_arg, rename_args, rename_simple, rename_ops, rename_kind, names_of, inner_names}
 pub use Rattle.pass_copy.proofs.CarriedTypes.{Moves, moves_part, typed_there}
 use Rattle.pass_copy.proofs.CarriedTypes.{with_keeps, after_keeps, scope_inside}

@@ -5,9 +5,10 @@ use Rattle.mlir_ir.specs.declared.types.Pack.{Pack}
 use Rattle.mlir_ir.specs.Operations.{OpKind, Simple, If, For, While, OpList, nil, next, labels_of, inner_labels}
 use Rattle.mlir_ir.specs.Rules.{arg_types}
 use Rattle.mlir_ir.specs.Typed.{Types, with_types, TypedOp, TypedOps, TypedRegions}
-use Rattle.pass_copy.specs.Arrivals.{Claim}
+use Rattle.pass_copy.specs.Reported.{Claim}
 use Rattle.pass_copy.specs.Renamed.{keep}
 use Rattle.pass_copy.specs.Replaced.{Operation, op_labels, is_loop, StandsIn, StandsInside, replaced, replaced_inside}
+use Rattle.pass_copy.specs.Scopes.{ScopeIn, ScopeInside}
 pub use Rattle.pass_copy.proofs.RenamedOps.{kept_args, kept_packs}
 pub use Rattle.pass_copy.proofs.UntouchedParts.{Lies, stands, stands_inside, Away, replaced_away, inside_away}
 use Rattle.pass_copy.proofs.UntouchedParts.{moves_before, moves_behind, loop_labels, not_around, no_loop_there, away_labels, away_inner_labels, op_other, op_here}
@@ -35,15 +36,15 @@ pub record WorksFrom (H : Claim) (f : ℕ → ℕ) (k t : ℕ) (o : Operation) (
   pub covers : Covers f (with_types T (t + inner_labels o.kind) o.results) behind
   pub below : Below (t + op_labels o) (t + labels_of others) behind
 
--- in each scope in which the loop may stand
-abbrev pub WorksAt : Claim → (ℕ → ℕ) → ℕ → ℕ → Operation → OpList → Type 0
-WorksAt H f k t o others =
-    (T : Types) (ctx : Scope) → TypedOp T o.packs o.results o.kind → TypedRegions T t o.results o.kind
+-- in each scope in which the loop may stand, where Q holds of it
+abbrev pub WorksAt : (Types → Type 0) → Claim → (ℕ → ℕ) → ℕ → ℕ → Operation → OpList → Type 0
+WorksAt Q H f k t o others =
+    (T : Types) (ctx : Scope) → Q T → TypedOp T o.packs o.results o.kind → TypedRegions T t o.results o.kind
     → Covers f T ctx → Below t t ctx → WorksFrom H f k t o others T ctx
 
 -- f keeps the labels in front of the loop, and moves those behind it, up to `end`, by what the others take more or less
-module _ (H : Claim) (f : ℕ → ℕ) (k t : ℕ) (o : Operation) (others : OpList) (end : ℕ) (few : k ≤ 31) (stays : (y : ℕ) → y < t → f y ≡ y)
-    (moves : (y : ℕ) → t + op_labels o ≤ y → y < end → f y + op_labels o ≡ y + labels_of others) (works : WorksAt H f k t o others) where
+module _ (Q : Types → Type 0) (H : Claim) (f : ℕ → ℕ) (k t : ℕ) (o : Operation) (others : OpList) (end : ℕ) (few : k ≤ 31) (stays : (y : ℕ) → y < t → f y ≡ y)
+    (moves : (y : ℕ) → t + op_labels o ≤ y → y < end → f y + op_labels o ≡ y + labels_of others) (works : WorksAt Q H f k t o others) where
   pub record PathFrom (T : Types) (ctx : Scope) (at at' : ℕ) (ops ops' : OpList) : Type 0 where
     pub from : AlikeFrom H f 31 T ctx at at' ops ops'
     pub grows : labels_of ops' + op_labels o ≡ labels_of ops + labels_of others
@@ -68,14 +69,14 @@ module _ (H : Claim) (f : ℕ → ℕ) (k t : ℕ) (o : Operation) (others : OpL
   -- the loop itself
   replaced_here : (packs : List Pack) (results : List IrType) (kind : OpKind) (rest : OpList) (T : Types) (ctx : Scope) (at : ℕ)
       → at ≡ t → is_loop kind ≡ true → record { packs = packs; results = results; kind = kind } ≡ o
-      → TypedOps T at (next packs results kind rest) → Covers f T ctx → Below at at ctx → at + (inner_labels kind + length results + labels_of rest) ≤ end
+      → Q T → TypedOps T at (next packs results kind rest) → Covers f T ctx → Below at at ctx → at + (inner_labels kind + length results + labels_of rest) ≤ end
       → PathFrom T ctx at at (next packs results kind rest) (replaced f t others at (next packs results kind rest))
-  replaced_here packs results kind rest T ctx at p l s u c b r =
+  replaced_here packs results kind rest T ctx at p l s held u c b r =
       let w = inner_labels kind + length results in
       let some = loop_labels kind l in
       let here : Operation = record { packs = packs; results = results; kind = kind } in
       let same : w ≡ op_labels o = ap op_labels s in
-      let v = subst (λ z. WorksAt H f k z here others) (sym p) (subst (λ z. WorksAt H f k t z others) (sym s) works) T ctx u.0 u.1 c b in
+      let v = subst (λ z. WorksAt Q H f k z here others) (sym p) (subst (λ z. WorksAt Q H f k t z others) (sym s) works) T ctx held u.0 u.1 c b in
       let rest' = replaced f t others (at + w) rest in
       let away : Away t (at + w) (labels_of rest) = inl (omega arith) in
       let a = away_ops rest 0 (with_types T (at + inner_labels kind) results) v.behind (at + w) (at + labels_of others) away u.2 v.covers v.below
@@ -126,15 +127,15 @@ module _ (H : Claim) (f : ℕ → ℕ) (k t : ℕ) (o : Operation) (others : OpL
       })
 
   mutual
-    pub replaced_ops : (ops : OpList) (T : Types) (ctx : Scope) (at at' : ℕ) → at' ≡ at → StandsIn t o at ops → TypedOps T at ops → Covers f T ctx → Below at at' ctx
+    pub replaced_ops : (ops : OpList) (T : Types) (ctx : Scope) (at at' : ℕ) → at' ≡ at → StandsIn t o at ops → ScopeIn t Q T at ops → TypedOps T at ops → Covers f T ctx → Below at at' ctx
         → at + labels_of ops ≤ end → PathFrom T ctx at at' ops (replaced f t others at ops)
-    replaced_ops nil T ctx at at' e s u c b r = absurd s
-    replaced_ops (next packs results kind rest) T ctx at at' e (inl s) u c b r =
+    replaced_ops nil T ctx at at' e s held u c b r = absurd s
+    replaced_ops (next packs results kind rest) T ctx at at' e (inl s) held u c b r =
         subst (λ z. PathFrom T ctx at z (next packs results kind rest) (replaced f t others at (next packs results kind rest))) (sym e)
-        (replaced_here packs results kind rest T ctx at s.0 s.1 s.2 u c (subst (λ z. Below at z ctx) e b) r)
-    replaced_ops (next packs results kind rest) T ctx at at' e (inr (inl s)) u c b r =
-        replaced_around packs results kind rest T ctx at at' e s u c b r (replaced_kind kind at s packs results T ctx at' e u.0 u.1 c b (omega arith))
-    replaced_ops (next packs results kind rest) T ctx at at' e (inr (inr s)) u c b r =
+        (replaced_here packs results kind rest T ctx at s.0 s.1 s.2 (held.0 s.0 s.1) u c (subst (λ z. Below at z ctx) e b) r)
+    replaced_ops (next packs results kind rest) T ctx at at' e (inr (inl s)) held u c b r =
+        replaced_around packs results kind rest T ctx at at' e s u c b r (replaced_kind kind at s packs results T ctx at' e held.1 u.0 u.1 c b (omega arith))
+    replaced_ops (next packs results kind rest) T ctx at at' e (inr (inr s)) held u c b r =
         let w = inner_labels kind + length results in
         let q = stands t o rest (at + w) s in
         let away : Away t at (inner_labels kind) = inr (omega (arith, q.begins)) in
@@ -143,7 +144,7 @@ module _ (H : Claim) (f : ℕ → ℕ) (k t : ℕ) (o : Operation) (others : OpL
         let kept = away_inner_labels f t others kind at away in
         let rest' = replaced f t others (at + w) rest in
         let here = away_kind kind packs results T ctx at at' away u.0 u.1 c b (moves_before f t stays at at' w (omega (arith, q.begins)) e) in
-        let a = replaced_ops rest (with_types T (at + inner_labels kind) results) (scope_behind ctx at at' results kind kind') (at + w) (at' + w') (omega arith) s u.2
+        let a = replaced_ops rest (with_types T (at + inner_labels kind) results) (scope_behind ctx at at' results kind kind') (at + w) (at' + w') (omega arith) s held.2 u.2
         (covers_behind H f keep T ctx at at' results kind kind' (moves_before f t stays (at + inner_labels kind) (at' + inner_labels kind') (length results) (omega (arith, q.begins)) (omega arith)) c)
         (below_behind H f keep ctx at at' results kind kind' b) (omega arith) in
         let more = a.grows in
@@ -160,13 +161,13 @@ module _ (H : Claim) (f : ℕ → ℕ) (k t : ℕ) (o : Operation) (others : OpL
         })
 
     replaced_kind : (kind : OpKind) (at : ℕ) → StandsInside t o at kind → (packs : List Pack) (results : List IrType) (T : Types) (ctx : Scope) (at' : ℕ) → at' ≡ at
-        → TypedOp T packs results kind → TypedRegions T at results kind → Covers f T ctx → Below at at' ctx → at + (inner_labels kind + length results) ≤ end
+        → ScopeInside t Q T at kind → TypedOp T packs results kind → TypedRegions T at results kind → Covers f T ctx → Below at at' ctx → at + (inner_labels kind + length results) ≤ end
         → KindFrom ctx at at' results kind (replaced_inside f t others at kind)
-    replaced_kind (Simple does) at s packs results T ctx at' e p u c b r = absurd s
-    replaced_kind (If cond first firsts has_else other others2) at (inl s) packs results T ctx at' e p u c b r =
+    replaced_kind (Simple does) at s packs results T ctx at' e held p u c b r = absurd s
+    replaced_kind (If cond first firsts has_else other others2) at (inl s) packs results T ctx at' e held p u c b r =
         let q = stands t o first at s in
         let in_other = at + labels_of first in
-        let a = replaced_ops first T ctx at at' e s u.0 c b (omega arith) in
+        let a = replaced_ops first T ctx at at' e s held.0 u.0 c b (omega arith) in
         let more = a.grows in
         let first' = replaced f t others at first in
         let in_other' = at' + labels_of first' in
@@ -180,14 +181,14 @@ module _ (H : Claim) (f : ℕ → ℕ) (k t : ℕ) (o : Operation) (others : OpL
               (moves_behind f t o others end moves in_other in_other' (labels_of other) (omega (arith, q.ends)) (omega arith) (omega arith)));
           grows = omega arith;
         }
-    replaced_kind (If cond first firsts has_else other others2) at (inr s) packs results T ctx at' e p u c b r =
+    replaced_kind (If cond first firsts has_else other others2) at (inr s) packs results T ctx at' e held p u c b r =
         let in_other = at + labels_of first in
         let q = stands t o other in_other s in
         let away : Away t at (labels_of first) = inr (omega (arith, q.begins)) in
         let kept = away_labels f t others first at away in
         let first' = replaced f t others at first in
         let in_other' = at' + labels_of first' in
-        let a = replaced_ops other T ctx in_other in_other' (omega arith) s u.2 c (below_more at at' in_other in_other' ctx (omega arith) (omega arith) b) (omega arith) in
+        let a = replaced_ops other T ctx in_other in_other' (omega arith) s held.1 u.2 c (below_more at at' in_other in_other' ctx (omega arith) (omega arith) b) (omega arith) in
         let more = a.grows in
         record {
           paid = 31;
@@ -196,13 +197,13 @@ module _ (H : Claim) (f : ℕ → ℕ) (k t : ℕ) (o : Operation) (others : OpL
               (away_ops first 31 T ctx at at' away u.0 c b (moves_before f t stays at at' (labels_of first) (omega (arith, q.begins)) e)) a.from;
           grows = omega arith;
         }
-    replaced_kind (For lower upper step iv args inits body ends) at s packs results T ctx at' e p u c b r =
+    replaced_kind (For lower upper step iv args inits body ends) at s packs results T ctx at' e held p u c b r =
         let len = length args in
         let in_body = at + 2 + len in
         let in_body' = at' + 2 + len in
         let q = stands t o body in_body s in
         let inner = pairs (at + 1) (at' + 1) (suc len) ctx in
-        let a = replaced_ops body (for_types H f keep T at iv args) inner in_body in_body' (omega arith) s u.0
+        let a = replaced_ops body (for_types H f keep T at iv args) inner in_body in_body' (omega arith) s held u.0
         (covers_for H f keep T ctx at at' iv args (moves_before f t stays (at + 1) (at' + 1) (suc len) (omega (arith, q.begins)) (omega arith)) c)
         (below_inside ctx at at' (at + 1) (at' + 1) (suc len) in_body in_body' (omega arith) (omega arith) (omega arith) (omega arith) b) (omega arith) in
         let more = a.grows in
@@ -212,7 +213,7 @@ module _ (H : Claim) (f : ℕ → ℕ) (k t : ℕ) (o : Operation) (others : OpL
           alike = alike_for H f keep packs results T ctx at at' lower upper step iv iv args args inits body (replaced f t others in_body body) ends p u c b a.from;
           grows = omega arith;
         }
-    replaced_kind (While args inits before passed cond after_args after ends) at (inl s) packs results T ctx at' e p u c b r =
+    replaced_kind (While args inits before passed cond after_args after ends) at (inl s) packs results T ctx at' e held p u c b r =
         let in_before = at + 1 + length args in
         let in_before' = at' + 1 + length args in
         let params = in_before + labels_of before in
@@ -222,7 +223,7 @@ module _ (H : Claim) (f : ℕ → ℕ) (k t : ℕ) (o : Operation) (others : OpL
         let U = with_types T (at + 1) (arg_types args) in
         let V = with_types T params (arg_types after_args) in
         let before' = replaced f t others in_before before in
-        let a = replaced_ops before U inner in_before in_before' (omega arith) s u.0
+        let a = replaced_ops before U inner in_before in_before' (omega arith) s held.0 u.0
         (covers_before H f keep T ctx at at' args (moves_before f t stays (at + 1) (at' + 1) (length args) (omega (arith, q.begins)) (omega arith)) c)
         (below_inside ctx at at' (at + 1) (at' + 1) (length args) in_before in_before' (omega arith) (omega arith) (omega arith) (omega arith) b) (omega arith) in
         let more = a.grows in
@@ -242,7 +243,7 @@ module _ (H : Claim) (f : ℕ → ℕ) (k t : ℕ) (o : Operation) (others : OpL
               (moves_behind f t o others end moves in_after in_after' (labels_of after) (omega (arith, q.ends)) (omega arith) (omega arith)));
           grows = omega arith;
         }
-    replaced_kind (While args inits before passed cond after_args after ends) at (inr s) packs results T ctx at' e p u c b r =
+    replaced_kind (While args inits before passed cond after_args after ends) at (inr s) packs results T ctx at' e held p u c b r =
         let in_before = at + 1 + length args in
         let in_before' = at' + 1 + length args in
         let params = in_before + labels_of before in
@@ -260,7 +261,7 @@ module _ (H : Claim) (f : ℕ → ℕ) (k t : ℕ) (o : Operation) (others : OpL
         (covers_before H f keep T ctx at at' args (moves_before f t stays (at + 1) (at' + 1) (length args) (omega (arith, q.begins)) (omega arith)) c)
         (below_inside ctx at at' (at + 1) (at' + 1) (length args) in_before in_before' (omega arith) (omega arith) (omega arith) (omega arith) b)
         (moves_before f t stays in_before in_before' (labels_of before) (omega (arith, q.begins)) (omega arith)) in
-        let a2 = replaced_ops after V (pairs params params' (length after_args) a.behind) in_after in_after' (omega arith) s u.3
+        let a2 = replaced_ops after V (pairs params params' (length after_args) a.behind) in_after in_after' (omega arith) s held.1 u.3
         (covers_after H f keep 0 (at + 1) in_before in_before' params params' T (arg_types args) inner before before' after_args
         (moves_before f t stays params params' (length after_args) (omega (arith, q.begins)) (omega arith)) a)
         (below_inside a.behind params params' params params' (length after_args) in_after in_after' (omega arith) (omega arith) (omega arith) (omega arith) a.below) (omega arith) in

@@ -5,8 +5,9 @@ use Rattle.mlir_ir.specs.Operations.{OpList, labels_of}
 use Rattle.mlir_ir.specs.Limits.{item_limit}
 use Rattle.mlir_ir.specs.Typed.{Types, TypedItems, types_after, types_after_items}
 use Rattle.mlir_ir.proofs.RunTraces.{prefix_self}
-use Rattle.pass_copy.specs.Arrivals.{Claim}
+use Rattle.pass_copy.specs.Reported.{Claim}
 use Rattle.pass_copy.specs.Replaced.{Operation, op_labels, item_end, StandsInItems, replaced, replaced_items}
+use Rattle.pass_copy.specs.Scopes.{ScopeInItems}
 use Rattle.pass_copy.proofs.RunEnds.{ends_ops, ends_items}
 use Rattle.pass_copy.proofs.Claims.{after_done, items_claim}
 use Rattle.pass_copy.proofs.Ahead.{Growing, grows_then, grows_ops, Dir, ahead_then, ahead_done}
@@ -53,9 +54,9 @@ items_next : (H : Claim) (f : ℕ → ℕ) (func k k0 k1 i : ℕ) (T : Types) (c
 items_next H f func k k0 k1 i T ctx ops ops' items items' le a r = record { behind = r.behind; alike = both_items k0 k1 a.behind le a.alike r.alike; covers = r.covers }
 
 -- f keeps the labels in front of the loop and those of the next items, and moves those between
-module _ (H : Claim) (f : ℕ → ℕ) (k t : ℕ) (o : Operation) (others : OpList) (func : ℕ) (few : k ≤ 31) (stays : (y : ℕ) → y < t → f y ≡ y)
+module _ (Q : Types → Type 0) (H : Claim) (f : ℕ → ℕ) (k t : ℕ) (o : Operation) (others : OpList) (func : ℕ) (few : k ≤ 31) (stays : (y : ℕ) → y < t → f y ≡ y)
     (moves : (y : ℕ) → t + op_labels o ≤ y → y < item_end t → f y + op_labels o ≡ y + labels_of others)
-    (beyond : (y : ℕ) → item_end t ≤ y → f y ≡ y) (works : WorksAt H f k t o others) where
+    (beyond : (y : ℕ) → item_end t ≤ y → f y ≡ y) (works : WorksAt Q H f k t o others) where
   items_behind : (items : List OpList) (i : ℕ) (T : Types) (ctx : Scope) → t < label_at func i 0 → item_end t ≤ label_at func i 0
       → TypedItems T func i items → ItemsFit items → ItemsFit (replaced_items f t others func i items) → Covers f T ctx → Below (label_at func i 0) (label_at func i 0) ctx
       → ItemsFrom H f func 0 i T ctx items (replaced_items f t others func i items)
@@ -63,30 +64,30 @@ module _ (H : Claim) (f : ℕ → ℕ) (k t : ℕ) (o : Operation) (others : OpL
   items_behind (ops ∷ items) i T ctx lt le u w w' c b =
       let at = label_at func i 0 in
       let n = labels_of ops in
-      let a = away_ops H f k t o others (item_end t) few stays moves works ops 0 T ctx at at (inl lt) u.0 c b (λ y low high. let e = beyond y (omega arith) in omega arith) in
+      let a = away_ops Q H f k t o others (item_end t) few stays moves works ops 0 T ctx at at (inl lt) u.0 c b (λ y low high. let e = beyond y (omega arith) in omega arith) in
       let r = items_behind items (i + 1) (types_after T at ops) a.behind (omega arith) (omega arith) u.1 w.1 w'.1 a.covers
       (below_more (at + n) (at + labels_of (replaced f t others at ops)) (label_at func (i + 1) 0) (label_at func (i + 1) 0) a.behind (omega (arith, w.0)) (omega (arith, w'.0)) a.below) in
       items_next H f func 0 0 0 i T ctx ops (replaced f t others at ops) items (replaced_items f t others func (i + 1) items) (omega arith) a r
 
   -- the loop stands in one of the items
   pub replaced_alike : (items : List OpList) (i : ℕ) (T : Types) (ctx : Scope) → i + length items ≤ item_limit + 1 → StandsInItems t o func i items
-      → TypedItems T func i items → ItemsFit items → ItemsFit (replaced_items f t others func i items) → Covers f T ctx → Below (label_at func i 0) (label_at func i 0) ctx
+      → ScopeInItems t Q T func i items → TypedItems T func i items → ItemsFit items → ItemsFit (replaced_items f t others func i items) → Covers f T ctx → Below (label_at func i 0) (label_at func i 0) ctx
       → ItemsFrom H f func 31 i T ctx items (replaced_items f t others func i items)
-  replaced_alike [] i T ctx le s u w w' c b = absurd s
-  replaced_alike (ops ∷ items) i T ctx le (inl s) u w w' c b =
+  replaced_alike [] i T ctx le s held u w w' c b = absurd s
+  replaced_alike (ops ∷ items) i T ctx le (inl s) held u w w' c b =
       let at = label_at func i 0 in
       let q = stands t o ops at s in
       let end : item_end t ≡ label_at func (i + 1) 0 = item_end_at func i t (omega arith) q.begins (omega (arith, q.ends, q.some, w.0)) in
-      let a = (replaced_ops H f k t o others (item_end t) few stays moves works ops T ctx at at refl s u.0 c b (omega (arith, w.0, end))).from in
+      let a = (replaced_ops Q H f k t o others (item_end t) few stays moves works ops T ctx at at refl s held.0 u.0 c b (omega (arith, w.0, end))).from in
       let r = items_behind items (i + 1) (types_after T at ops) a.behind (omega (arith, q.ends, q.some, w.0)) (omega (arith, end)) u.1 w.1 w'.1 a.covers
       (below_more (at + labels_of ops) (at + labels_of (replaced f t others at ops)) (label_at func (i + 1) 0) (label_at func (i + 1) 0) a.behind (omega (arith, w.0)) (omega (arith, w'.0)) a.below) in
       items_next H f func 31 31 0 i T ctx ops (replaced f t others at ops) items (replaced_items f t others func (i + 1) items) (omega arith) a r
-  replaced_alike (ops ∷ items) i T ctx le (inr s) u w w' c b =
+  replaced_alike (ops ∷ items) i T ctx le (inr s) held u w w' c b =
       let at = label_at func i 0 in
       let n = labels_of ops in
       let q = stands_behind t o func (i + 1) items s in
-      let a = away_ops H f k t o others (item_end t) few stays moves works ops 0 T ctx at at (inr (omega (arith, w.0))) u.0 c b
+      let a = away_ops Q H f k t o others (item_end t) few stays moves works ops 0 T ctx at at (inr (omega (arith, w.0))) u.0 c b
       (λ y low high. let e = stays y (omega (arith, w.0)) in omega arith) in
-      let r = replaced_alike items (i + 1) (types_after T at ops) a.behind (omega arith) s u.1 w.1 w'.1 a.covers
+      let r = replaced_alike items (i + 1) (types_after T at ops) a.behind (omega arith) s held.1 u.1 w.1 w'.1 a.covers
       (below_more (at + n) (at + labels_of (replaced f t others at ops)) (label_at func (i + 1) 0) (label_at func (i + 1) 0) a.behind (omega (arith, w.0)) (omega (arith, w'.0)) a.below) in
       items_next H f func 31 0 31 i T ctx ops (replaced f t others at ops) items (replaced_items f t others func (i + 1) items) (omega arith) a r

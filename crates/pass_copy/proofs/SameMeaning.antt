@@ -18,16 +18,17 @@ use Rattle.mlir_ir.specs.Rules.{arg_types}
 use Rattle.mlir_ir.specs.RunPrefixes.{IsPrefix, IsFrontOf}
 use Rattle.mlir_ir.specs.Runs.{Run, Binding, Report, Event, State, Trapped, Starved, Cut, End, Done, Stopped, Ended, binds, numbers_of, numbers_at, definitions, run_items, outcome_of, trace_of, run_body, run_declared, run_of}
 use Rattle.mlir_ir.specs.Sized.{SizedItems}
-use Rattle.mlir_ir.specs.Typed.{args_typed, untyped, types_after_items}
+use Rattle.mlir_ir.specs.Typed.{Types, args_typed, untyped, types_after_items}
 use Rattle.mlir_ir.specs.View.{view_items}
 use Rattle.mlir_ir.specs.WellFormed.{IsTypedBody, IsSizedBody}
 use Rattle.mlir_ir.proofs.RunBudgets.{budgets_extend}
 use Rattle.mlir_ir.proofs.RunTraces.{prefix_self}
 use Rattle.mlir_ir.proofs.SizedFunctions.{well_formed}
-use Rattle.pass_copy.specs.Arrivals.{Claim, AllHoldAt, HoldsIn}
+use Rattle.pass_copy.specs.Reported.{Claim, AllHoldAt, HoldsIn}
 use Rattle.pass_copy.specs.Meaning.{outcome_on, trace_on, parent_budget, Finishes, HasSameMeaning}
 use Rattle.pass_copy.specs.Renamed.{relabels}
 use Rattle.pass_copy.specs.Replaced.{Operation, op_labels, item_end, StandsInBody, StandsAt, replaced_items, replaced_body, replaced_func}
+use Rattle.pass_copy.specs.Scopes.{ScopeInBody, HasScope}
 use Rattle.pass_copy.proofs.RunEnds.{ends_items, items_ends}
 use Rattle.pass_copy.proofs.Claims.{items_claim, items_claimed}
 use Rattle.pass_copy.proofs.Ahead.{Dir, forth, back, Left, left_le, Joint, Leads, swapped, Ahead}
@@ -184,13 +185,13 @@ loop_in_item p t o well s = let h = in_item p well t o s in h.whole
 
 -- the child
 
-module _ (H : Claim) (f : ℕ → ℕ) (k t : ℕ) (o : Operation) (others : OpList) (p child : Func) (few : k ≤ 31) (stays : (y : ℕ) → y < t → f y ≡ y)
+module _ (Q : Types → Type 0) (H : Claim) (f : ℕ → ℕ) (k t : ℕ) (o : Operation) (others : OpList) (p child : Func) (few : k ≤ 31) (stays : (y : ℕ) → y < t → f y ≡ y)
     (moves : (y : ℕ) → t + op_labels o ≤ y → y < item_end t → f y + op_labels o ≡ y + labels_of others)
-    (beyond : (y : ℕ) → item_end t ≤ y → f y ≡ y) (holds : HoldsIn H p) (works : WorksAt H f k t o others) where
+    (beyond : (y : ℕ) → item_end t ≤ y → f y ≡ y) (holds : HoldsIn H p) (works : WorksAt Q H f k t o others) where
   bodies_mean : (body body' : Body) → p.body ≡ Some body → child.body ≡ Some body' → StandsInBody t o p.index (Some body)
-      → IsTypedBody p (Some body) → IsSizedBody (Some body) → length p.args ≤ arg_limit → All HasFewLabels body'.items
+      → ScopeInBody t Q p (Some body) → IsTypedBody p (Some body) → IsSizedBody (Some body) → length p.args ≤ arg_limit → All HasFewLabels body'.items
       → child.index ≡ p.index → child.args ≡ p.args → plain_body body' ≡ replaced_body f t others p.index body → HasSameMeaning p child
-  bodies_mean body body' e e' stands typed sized args_few fit same_index same_args same =
+  bodies_mean body body' e e' stands held typed sized args_few fit same_index same_args same =
       let func = p.index in
       let items = view_items body.items in
       let items' = replaced_items f t others func 1 items in
@@ -202,8 +203,8 @@ module _ (H : Claim) (f : ℕ → ℕ) (k t : ℕ) (o : Operation) (others : OpL
       let behind = stands_behind t o func 1 items stands in
       let covers = covers_more f untyped [] at at len at (arg_types p.args) refl (arg_types_length p.args) (λ y low high. let q = stays y (omega arith) in omega arith) (λ y h. cc) in
       let below = below_inside [] at at at at len next_at next_at (omega arith) (omega arith) (omega arith) (omega arith) tt in
-      let r = replaced_alike H f k t o others func few stays moves beyond works items 1 (args_typed func p.args) (pairs at at len []) (omega (arith, sized.few)) stands
-      typed.inside (sized_labels items sized.inside) (subst ItemsFit same_items (items_fit body'.items fit)) covers below in
+      let r = replaced_alike Q H f k t o others func few stays moves beyond works items 1 (args_typed func p.args) (pairs at at len []) (omega (arith, sized.few)) stands
+      held typed.inside (sized_labels items sized.inside) (subst ItemsFit same_items (items_fit body'.items fit)) covers below in
       let child_runs = subst (λ z. RunsAs child (relabels f body.ret) (runs_of func p.args z)) same_items
       (subst (λ z. RunsAs child z (runs_of func p.args (view_items body'.items))) same_ret
       (subst (λ z. RunsAs child body'.ret (runs_of func z (view_items body'.items))) same_args
@@ -212,17 +213,17 @@ module _ (H : Claim) (f : ℕ → ℕ) (k t : ℕ) (o : Operation) (others : OpL
       (all_covered f (types_after_items (args_typed func p.args) func 1 items) r.behind body.ret r.covers typed.returned.in_scope)
 
   by_bodies : (body body' : Option Body) → p.body ≡ body → child.body ≡ body' → StandsInBody t o p.index body
-      → IsTypedBody p body → IsSizedBody body → length p.args ≤ arg_limit → IfSome body' (λ (b : Body). All HasFewLabels b.items)
+      → ScopeInBody t Q p body → IsTypedBody p body → IsSizedBody body → length p.args ≤ arg_limit → IfSome body' (λ (b : Body). All HasFewLabels b.items)
       → child.index ≡ p.index → child.args ≡ p.args → option_map plain_body body' ≡ option_map (replaced_body f t others p.index) body → HasSameMeaning p child
-  by_bodies None body' e e' stands typed sized args_few fit same_index same_args same = absurd stands
-  by_bodies (Some body) None e e' stands typed sized args_few fit same_index same_args same = cc
-  by_bodies (Some body) (Some body') e e' stands typed sized args_few fit same_index same_args same =
-      bodies_mean body body' e e' stands typed sized args_few fit same_index same_args
+  by_bodies None body' e e' stands held typed sized args_few fit same_index same_args same = absurd stands
+  by_bodies (Some body) None e e' stands held typed sized args_few fit same_index same_args same = cc
+  by_bodies (Some body) (Some body') e e' stands held typed sized args_few fit same_index same_args same =
+      bodies_mean body body' e e' stands held typed sized args_few fit same_index same_args
       (ap (λ (b : Option PlainBody). option_map_or (λ (x : PlainBody). x) b (plain_body body')) same)
 
   -- where the child has few enough labels
-  pub child_means_the_same : IsWellFormed p → StandsAt p t o → plain_func child ≡ replaced_func f t others p → DoLabelsFit child → HasSameMeaning p child
-  child_means_the_same well stands is fit =
+  pub child_means_the_same : IsWellFormed p → StandsAt p t o → HasScope p t Q → plain_func child ≡ replaced_func f t others p → DoLabelsFit child → HasSameMeaning p child
+  child_means_the_same well stands held is fit =
       let parts = well_formed p well in
-      by_bodies p.body child.body refl refl stands parts.0 parts.2.inside parts.2.args_sized.few fit.items_fit
+      by_bodies p.body child.body refl refl stands held parts.0 parts.2.inside parts.2.args_sized.few fit.items_fit
       (ap (λ (g : PlainFunc). g.index) is) (ap (λ (g : PlainFunc). g.args) is) (ap (λ (g : PlainFunc). g.body) is)

@@ -3,7 +3,7 @@ use Rattle.std.proofs.Common.{◌≡◌, ℕ, ◌+◌, List, length, refl, ◌�
 use Rattle.mlir_ir.specs.declared.types.IrType.{IrType}
 use Rattle.mlir_ir.specs.Operations.{OpKind, OpList, labels_of, inner_labels}
 use Rattle.mlir_ir.specs.Runs.{End, look, numbers_of, is_false}
-use Rattle.pass_copy.specs.Arrivals.{Claim}
+use Rattle.pass_copy.specs.Reported.{Claim}
 use Rattle.pass_copy.proofs.RunEnds.{ends_ops, ends_kind, ends_hands}
 use Rattle.pass_copy.proofs.Claims.{after_done, ops_claim, op_claim}
 use Rattle.pass_copy.proofs.Ahead.{Dir, Ahead, ahead_then, ahead_if, ahead_done, grows_ops, joined_ends}
@@ -23,7 +23,7 @@ mutual
   -- of one operation, where the claim holds where the runs come to it and in its regions
   pub sim_op : (H : Claim) {k : ℕ} {ctx : Scope} {at at' : ℕ} {results : List IrType} {kind kind' : OpKind} → AlikeOp H k ctx at at' results kind kind'
       → (d : Dir) (n n' : ℕ)
-      → KeepPace d n n' k ctx (scope_behind ctx at at' results kind kind') (op_claim H kind n at) (ends_kind kind results n at) (ends_kind kind' results n' at')
+      → KeepPace d n n' k ctx (scope_behind ctx at at' results kind kind') (op_claim H kind results n at) (ends_kind kind results n at) (ends_kind kind' results n' at')
   sim_op H (both_simple {ctx} {at} {at'} {results} {does} {does'} bl counts al) d n n' B B' c env s env' s' le le' jk h =
       let j = joined_le ctx d B B' B B' c (c + 0) env s env' s' (omega arith) (omega arith) (omega arith) jk in
       ahead_at ctx d B B' c at at' (at + 0) (at' + 0) (length results) (length results) _ _ (omega arith) (omega arith) refl
@@ -94,6 +94,6 @@ mutual
       rw (joined_ends others rest' n' at' env' s')
       (ahead_then d (Joined ctx1 d B B' (c + k1)) (Joined ctx2 d B B' c) (ends_kind kind results n at env s) (ends_ops others n' at' env' s')
       (ends_ops rest n (at + w)) (ends_ops rest' n' (at' + labels_of others))
-      (works d n n' B B' (c + k1) env s env' s' le le' (joined_le ctx d B B' B B' (c + k1 + k0) (c + k) env s env' s' (omega arith) (omega arith) (omega arith) j) h.0)
+      (works d n n' B B' (c + k1) env s env' s' le le' (joined_le ctx d B B' B B' (c + k1 + k0) (c + k) env s env' s' (omega arith) (omega arith) (omega arith) j) h.0.0)
       (λ env1 s1 env1' s1' q q' j1. sim_ops H ar d n n' B B' c env1 s1 env1' s1' le le' j1 (after_done (ends_kind kind results n at env s) (ops_claim H rest n (at + w)) env1 s1 q h.1))
       (grows_ops rest n (at + w)) (grows_ops rest' n' (at' + labels_of others)))

@@ -30,6 +30,7 @@ use Rattle.mlir_ir.proofs.TypedFunctions.{func_back}
 use Rattle.pass_copy.specs.Fresh.{value_names, free_number, fresh_names}
 use Rattle.pass_copy.specs.Renamed.{relabels}
 use Rattle.pass_copy.specs.Replaced.{Operation, item_end, StandsInItems, StandsInBody, StandsAt, replaced_items, replaced_body, replaced_func}
+use Rattle.pass_copy.specs.Scopes.{ScopeInBody, HasScope}
 use Rattle.pass_copy.proofs.CarriedTypes.{Carries, Below, below_known, below_with}
 use Rattle.pass_copy.proofs.TypedRenamed.{end_kept, passes_kept}
 use Rattle.pass_copy.proofs.NamedRenamed.{AreFresh, Unused, OldArgs, unused_args}
@@ -176,11 +177,11 @@ module _ (f : Func) (w : IsWellFormed f) (g : ℕ → ℕ) (t : ℕ) (seg : OpLi
   few_of None s fit = absurd s
   few_of (Some body) s fit = few_in g t seg o f.index 1 (view_items body.items) s fit
 
-  typed_of : (body : Option Body) → KeepsTypes g t seg (item_end t) o → KeepsOthers g t → StandsInBody t o f.index body → IfSome body (λ (b : Body). length b.items ≤ item_limit)
+  typed_of : (Q : Types → Type 0) (body : Option Body) → KeepsTypes Q g t seg (item_end t) o → KeepsOthers g t → StandsInBody t o f.index body → ScopeInBody t Q f body → IfSome body (λ (b : Body). length b.items ≤ item_limit)
       → length f.args ≤ label_limit → PlainFitsBody (option_map plain_body body) → PlainFitsBody (option_map (replaced_body g t seg f.index) body) → IsTypedBody f body
       → PlainTypedBody f.index f.args f.results (option_map (replaced_body g t seg f.index) body)
-  typed_of None m k s few args fit fit' h = tt
-  typed_of (Some body) m k s few args fit fit' h =
+  typed_of Q None m k s held few args fit fit' h = tt
+  typed_of Q (Some body) m k s held few args fit fit' h =
       let items = view_items body.items in
       let T = args_typed f.index f.args in
       let L = label_at f.index 1 0 in
@@ -188,7 +189,7 @@ module _ (f : Func) (w : IsWellFormed f) (g : ℕ → ℕ) (t : ℕ) (seg : OpLi
       let ll = length_items body.items in
       let b : Below L T = below_with (label_at f.index 0 0) (label_at f.index 0 0) L (arg_types f.args) untyped (λ l le. refl) (omega arith) (omega (arith, la, args)) in
       let c : Carries g T T = same_carries g t L T k.before (stands_behind t o f.index 1 items s) b in
-      let r = found_items g t seg f.index o m k.after 1 items s (omega (arith, ll, few)) T T b c b fit fit' h.inside in
+      let r = found_items g t seg f.index Q o m k.after 1 items s (omega (arith, ll, few)) T T held b c b fit fit' h.inside in
       record {
         inside = r.0;
         returned =
@@ -216,11 +217,11 @@ module _ (f : Func) (w : IsWellFormed f) (g : ℕ → ℕ) (t : ℕ) (seg : OpLi
     pub few_labels : labels_of seg ≤ label_limit
     few_labels = few_of f.body stands child_fits
 
-    pub child_typed : KeepsTypes g t seg (item_end t) o → KeepsOthers g t → IsTyped child
-    child_typed m k =
+    pub child_typed : (Q : Types → Type 0) → HasScope f t Q → KeepsTypes Q g t seg (item_end t) o → KeepsOthers g t → IsTyped child
+    child_typed Q held m k =
         let fit = labels_fit f w in
         typed_plain child child.body
-        (subst PlainTyped (sym is) (typed_of f.body m k stands (few_items f w) fit.args_fit (fits_plain f.body fit.items_fit) child_fits (well_formed f w).0))
+        (subst PlainTyped (sym is) (typed_of Q f.body m k stands held (few_items f w) fit.args_fit (fits_plain f.body fit.items_fit) child_fits (well_formed f w).0))
 
     pub child_named : KeepsNames fresh label_limit seg o → IsNamed child
     child_named m =
@@ -229,5 +230,5 @@ module _ (f : Func) (w : IsWellFormed f) (g : ℕ → ℕ) (t : ℕ) (seg : OpLi
         let p : PlainNamed (plain_func child) = subst PlainNamed (sym is) (wf.1.head, named_of f.body m stands (fits_plain f.body fit.items_fit) (values_lack f w) wf.0 wf.1.inside) in
         record { head = p.0; inside = named_plain child child.body p.1 }
 
-    pub child_breaks : KeepsTypes g t seg (item_end t) o → KeepsOthers g t → KeepsNames fresh label_limit seg o → OnlySize (breaks child)
-    child_breaks m k n = func_back child (child_typed m k) (child_named n)
+    pub child_breaks : (Q : Types → Type 0) → HasScope f t Q → KeepsTypes Q g t seg (item_end t) o → KeepsOthers g t → KeepsNames fresh label_limit seg o → OnlySize (breaks child)
+    child_breaks Q held m k n = func_back child (child_typed Q held m k) (child_named n)

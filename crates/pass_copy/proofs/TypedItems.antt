@@ -6,6 +6,7 @@ use Rattle.mlir_ir.specs.Operations.{OpList, labels_of}
 use Rattle.mlir_ir.specs.Typed.{Types, types_after, types_after_items, TypedItems}
 use Rattle.mlir_ir.specs.Named.{Names, names_after, NamedItems}
 use Rattle.pass_copy.specs.Replaced.{Operation, item_end, StandsInItems, replaced, replaced_items}
+use Rattle.pass_copy.specs.Scopes.{ScopeInItems}
 use Rattle.pass_copy.proofs.CarriedTypes.{Carries, Below, Moves, below_more, below_after}
 use Rattle.pass_copy.proofs.NamedRenamed.{Unused, Apart, OldOps, unused_after, names_after_relabelled}
 use Rattle.pass_copy.proofs.ItemPlaces.{ItemsFit, next_item, item_end_at, stands_behind}
@@ -42,21 +43,21 @@ module _ (f : ℕ → ℕ) (t : ℕ) (seg : OpList) (func : ℕ) where
       let r = after_typed (k + 1) items (omega arith) (λ l x0. un l (omega arith)) (types_after T L ops) (types_after T' L ops') (below_item k ops' T' le b) p.1 fit.1 h.1 in
       ((p.0, r.0), r.1)
 
-  module _ (o : Operation) where
-    pub found_items : KeepsTypes f t seg (item_end t) o → ((l : ℕ) → item_end t ≤ l → f l ≡ l) → (k : ℕ) (items : List OpList) → StandsInItems t o func k items → k + length items ≤ item_count
-        → (T T' : Types) → Below (label_at func k 0) T → Carries f T T' → Below (label_at func k 0) T' → ItemsFit items → ItemsFit (replaced_items f t seg func k items) → TypedItems T func k items
+  module _ (Q : Types → Type 0) (o : Operation) where
+    pub found_items : KeepsTypes Q f t seg (item_end t) o → ((l : ℕ) → item_end t ≤ l → f l ≡ l) → (k : ℕ) (items : List OpList) → StandsInItems t o func k items → k + length items ≤ item_count
+        → (T T' : Types) → ScopeInItems t Q T func k items → Below (label_at func k 0) T → Carries f T T' → Below (label_at func k 0) T' → ItemsFit items → ItemsFit (replaced_items f t seg func k items) → TypedItems T func k items
         → KeptItems k items (replaced_items f t seg func k items) T T'
-    found_items m un k [] s few T T' b c b' fit fit' h = absurd s
-    found_items m un k (ops ∷ items) (inl s) few T T' b c b' fit fit' h =
+    found_items m un k [] s few T T' held b c b' fit fit' h = absurd s
+    found_items m un k (ops ∷ items) (inl s) few T T' held b c b' fit fit' h =
         let L = label_at func k 0 in
         let ops' = replaced f t seg L ops in
         let g = stands t o ops L s in
         let n = next_item func k (labels_of ops) fit.0 in
         let e : item_end t ≡ label_at func (k + 1) 0 = item_end_at func k t (omega arith) g.begins (omega (arith, g.some, g.ends)) in
-        let p = found_ops f t seg (item_end t) o m L ops s (omega arith) T T' b c b' h.0 in
+        let p = found_ops f t seg Q (item_end t) o m L ops s (omega arith) T T' held.0 b c b' h.0 in
         let r = after_typed (k + 1) items (omega (arith, g.some, g.ends)) (λ l x0. un l (omega arith)) (types_after T L ops) (types_after T' L ops') (below_item k ops' T' fit'.0 b') p.1 fit.1 h.1 in
         ((p.0, r.0), r.1)
-    found_items m un k (ops ∷ items) (inr s) few T T' b c b' fit fit' h =
+    found_items m un k (ops ∷ items) (inr s) few T T' held b c b' fit fit' h =
         let L = label_at func k 0 in
         let ops' = replaced f t seg L ops in
         let low = stands_behind t o func (k + 1) items s in
@@ -64,7 +65,7 @@ module _ (f : ℕ → ℕ) (t : ℕ) (seg : OpList) (func : ℕ) where
         let q : Away t L (labels_of ops) = inr (omega arith) in
         let moves = moves_before f t m.before L L (labels_of ops) (omega arith) refl in
         let p = untouched_kept f t seg T T' L L ops q moves b' c h.0 in
-        let r = found_items m un (k + 1) items s (omega arith) (types_after T L ops) (types_after T' L ops') (below_item k ops T fit.0 b) p.1 (below_item k ops' T' fit'.0 b') fit.1 fit'.1 h.1 in
+        let r = found_items m un (k + 1) items s (omega arith) (types_after T L ops) (types_after T' L ops') held.1 (below_item k ops T fit.0 b) p.1 (below_item k ops' T' fit'.0 b') fit.1 fit'.1 h.1 in
         ((p.0, r.0), r.1)
 
   module _ (fresh : ℕ → List ℕ) (K : ℕ) where

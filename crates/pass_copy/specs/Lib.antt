@@ -3,7 +3,8 @@ pub mod Renaming
 pub mod Fresh
 pub mod Meaning
 pub mod Replaced
-pub mod Arrivals
+pub mod Scopes
+pub mod Reported
 pub mod ItemLabels
 pub mod Listed
 pub mod Copied

@@ -5,7 +5,9 @@ use Rattle.mlir_ir.specs.Operations.{OpKind, For, OpList}
 use Rattle.mlir_ir.specs.View.{view_kind}
 use Rattle.mlir_ir.specs.View.{view_ops}
 use Rattle.pass_copy.specs.Renaming.{renamed}
-use Rattle.pass_copy.specs.Replaced.{Operation, StandsIn, StandsInside, replaced, replaced_inside}
+use Rattle.pass_copy.specs.Replaced.{Operation, is_loop, StandsIn, StandsInside, replaced, replaced_inside}
+use Rattle.pass_copy.specs.declared.places.Wanted.{Wanted}
+use Rattle.pass_copy.specs.declared.places.Wanted.TheVariants.{Fors, Loops}
 use Rattle.pass_copy.specs.declared.replacing.Change.{Change}
 
 abbrev pub operation_in : Op → Operation
@@ -15,19 +17,24 @@ abbrev pub is_for : OpKind → Bool
 is_for (For lower upper step iv args inits body ends) = true
 is_for _ = false
 
--- no `scf.for` begins with label t in operations of which the first begins with label `at`
-abbrev pub NoneStands : ℕ → ℕ → OpList → Type 0
-NoneStands t at ops = (o : Operation) → is_for o.kind ≡ true → StandsIn t o at ops → ⊥
+-- the loops that are sought
+abbrev pub is_wanted : Wanted → OpKind → Bool
+is_wanted Fors = is_for
+is_wanted Loops = is_loop
 
-abbrev pub NoneInside : ℕ → ℕ → OpKind → Type 0
-NoneInside t at kind = (o : Operation) → is_for o.kind ≡ true → StandsInside t o at kind → ⊥
+-- no loop that is sought begins with label t in operations of which the first begins with label `at`
+abbrev pub NoneStands : Wanted → ℕ → ℕ → OpList → Type 0
+NoneStands wanted t at ops = (o : Operation) → is_wanted wanted o.kind ≡ true → StandsIn t o at ops → ⊥
 
--- an `scf.for` that begins with label t in operations, and in an operation
-abbrev pub IsForIn : ℕ → Operation → ℕ → OpList → Type 0
-IsForIn t o at ops = (is_for o.kind ≡ true) × StandsIn t o at ops
+abbrev pub NoneInside : Wanted → ℕ → ℕ → OpKind → Type 0
+NoneInside wanted t at kind = (o : Operation) → is_wanted wanted o.kind ≡ true → StandsInside t o at kind → ⊥
 
-abbrev pub IsForInside : ℕ → Operation → ℕ → OpKind → Type 0
-IsForInside t o at kind = (is_for o.kind ≡ true) × StandsInside t o at kind
+-- one that is sought begins with label t in operations, and in an operation
+abbrev pub IsWantedIn : Wanted → ℕ → Operation → ℕ → OpList → Type 0
+IsWantedIn wanted t o at ops = (is_wanted wanted o.kind ≡ true) × StandsIn t o at ops
+
+abbrev pub IsWantedInside : Wanted → ℕ → Operation → ℕ → OpKind → Type 0
+IsWantedInside wanted t o at kind = (is_wanted wanted o.kind ≡ true) × StandsInside t o at kind
 
 -- operations in the child, of which the first begins with label `at` in the parent
 abbrev pub ops_in : Change → ℕ → OpList → OpList

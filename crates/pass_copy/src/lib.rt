@@ -20,7 +20,7 @@ pub use copies::{copy_arg, copy_args, copy_ops, copy_packs, copy_region, copy_ty
 pub use laws::{fresh_names_are_free, functions_mean_themselves};
 pub use moving::{labels_from, moved, moved_map, push_links};
 pub use names::Names;
-pub use places::{advance, found_for, is_loop, labels_in, pass_kind};
+pub use places::{advance, found_for, found_loop, is_loop, labels_in, pass_kind};
 pub use renaming::{Renaming, Span};
 pub use replacing::replace;
 pub use same::{region_of, same_arg, same_args, same_labels, same_packs};

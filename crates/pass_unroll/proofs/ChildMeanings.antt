@@ -6,6 +6,8 @@ use Rattle.mlir_ir.specs.declared.types.Func.{Func}
 use Rattle.pass_copy.specs.Fresh.{fresh_names}
 use Rattle.pass_copy.specs.Meaning.{HasSameMeaning}
 use Rattle.pass_copy.specs.Renaming.{renamed}
+use Rattle.pass_copy.specs.Scopes.{AnyScope}
+use Rattle.pass_copy.proofs.LoopScopes.{any_scope}
 use Rattle.pass_copy.proofs.SameMeaning.{child_means_the_same}
 use Rattle.pass_unroll.specs.Children.{peel_spans, peeled, full_spans, unrolled_full, unroll_spans, unrolled, IsPeeled, IsUnrolledFull, IsUnrolled}
 use Rattle.pass_unroll.specs.Copies.{operation_of}
@@ -27,11 +29,11 @@ module _ (f child : Func) (t : ℕ) (plan : Plan) (well : IsWellFormed f) (fit :
       let o = child_is.o in
       let in_item = found_fits t (operation_of o) f well child_is.stands in
       let labels = labels_peeled fresh t plan o in
-      child_means_the_same (HasHeader t o plan) (renamed (peel_spans fresh t plan o)) 1 t (operation_of o) (peeled fresh t plan o) f child (omega arith)
+      child_means_the_same AnyScope (HasHeader t o plan) (renamed (peel_spans fresh t plan o)) 1 t (operation_of o) (peeled fresh t plan o) f child (omega arith)
       (peel_before fresh t plan o) (λ y low high. let e = peel_has fresh t plan o y (omega arith) high in omega (arith, e, labels)) (peel_behind fresh t plan o)
       (planned.headed o child_is.stands)
-      (λ T ctx typed inside covers below. peel_works fresh t plan o T typed inside in_item (planned.turns o child_is.stands) some ctx covers below)
-      well child_is.stands child_is.is fit
+      (λ T ctx held typed inside covers below. peel_works fresh t plan o T typed inside in_item (planned.turns o child_is.stands) some ctx covers below)
+      well child_is.stands (any_scope f t) child_is.is fit
 
   pub unrolled_full_means : IsUnrolledFull f t plan child → plan.count ≤ 31 → IsPlanned f t plan → HasSameMeaning f child
   unrolled_full_means child_is few planned =
@@ -41,19 +43,19 @@ module _ (f child : Func) (t : ℕ) (plan : Plan) (well : IsWellFormed f) (fit :
       let inits = inits_length loop.scope t o loop.alone loop.inside in
       let ends_len = ends_length loop.scope t o loop.alone loop.inside ∙ sym inits in
       let results_len = inits ∙ results_length loop.scope t o loop.alone loop.inside in
-      child_means_the_same (HasHeader t o plan) (renamed (full_spans fresh t plan o)) plan.count t (operation_of o) (unrolled_full fresh t plan o) f child few
+      child_means_the_same AnyScope (HasHeader t o plan) (renamed (full_spans fresh t plan o)) plan.count t (operation_of o) (unrolled_full fresh t plan o) f child few
       (λ y h. full_before fresh t plan o y (omega arith)) (full_has fresh t plan o ends_len results_len in_item) (full_behind fresh t plan o ends_len results_len in_item)
       (planned.headed o child_is.stands)
-      (λ T ctx typed inside covers below. full_works fresh t plan o T typed inside (planned.turns o child_is.stands) ctx covers below)
-      well child_is.stands child_is.is fit
+      (λ T ctx held typed inside covers below. full_works fresh t plan o T typed inside (planned.turns o child_is.stands) ctx covers below)
+      well child_is.stands (any_scope f t) child_is.is fit
 
   pub unrolled_means : (factor : ℕ) → IsUnrolled f t factor plan child → IsPlannedBy f t factor plan → HasSameMeaning f child
   unrolled_means factor child_is planned =
       let o = child_is.o in
       let in_item = found_fits t (operation_of o) f well child_is.stands in
-      child_means_the_same (HasHeader t o plan) (renamed (unroll_spans fresh t plan o factor)) 0 t (operation_of o) (unrolled fresh t plan o factor) f child (omega arith)
+      child_means_the_same AnyScope (HasHeader t o plan) (renamed (unroll_spans fresh t plan o factor)) 0 t (operation_of o) (unrolled fresh t plan o factor) f child (omega arith)
       (λ y h. unroll_before fresh t plan o factor in_item y (omega arith)) (unroll_has fresh t plan o factor in_item) (unroll_behind fresh t plan o factor in_item)
       (planned.planned.headed o child_is.stands)
-      (λ T ctx typed inside covers below.
+      (λ T ctx held typed inside covers below.
       unroll_works fresh t plan o factor T typed inside in_item planned.factor_low planned.factor_high (planned.planned.turns o child_is.stands) (planned.main o child_is.stands) ctx covers below)
-      well child_is.stands child_is.is fit
+      well child_is.stands (any_scope f t) child_is.is fit

@@ -3,7 +3,7 @@ use Rattle.std.proofs.Common.{◌≡◌, ℕ, zero, suc, ◌+◌, ◌-◌, ◌<�
 use Rattle.arith_word.specs.declared.label.Label.{Label}
 use Rattle.mlir_ir.specs.Operations.{OpList, nil, labels_of, joined}
 use Rattle.mlir_ir.specs.Runs.{Number, Binding, State, End, Done, look, numbers_of, binds, end_then}
-use Rattle.pass_copy.specs.Arrivals.{Claim}
+use Rattle.pass_copy.specs.Reported.{Claim}
 use Rattle.pass_copy.proofs.RunEnds.{Ending, spent, goes_on, stepped, ends_counted, ends_ops}
 use Rattle.pass_copy.proofs.Claims.{after, counted_claim, ops_claim, after_done}
 use Rattle.pass_copy.proofs.Ahead.{Grows, Growing, grows_then, grows_ops, grows_counted, Dir, St, Joint, Ahead, ahead_then, ahead_one, ahead_cut, st_le, then_then, joined_ends}

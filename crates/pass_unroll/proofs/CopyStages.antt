@@ -6,7 +6,7 @@ use Rattle.mlir_ir.specs.Rules.{arg_types}
 use Rattle.mlir_ir.specs.Runs.{Number, number}
 use Rattle.mlir_ir.specs.Typed.{Types, with_types, TypedOp, TypedRegions, types_after}
 use Rattle.mlir_ir.specs.Words.{bits_of}
-use Rattle.pass_copy.specs.Arrivals.{Claim}
+use Rattle.pass_copy.specs.Reported.{Claim}
 use Rattle.pass_copy.specs.Renamed.{Naming, anew, rename_ops, names_of}
 use Rattle.pass_copy.specs.Renaming.{renamed}
 use Rattle.pass_copy.proofs.Bindings.{Scope, pair, linked, bound, All2, AllBelow, Below, below_more, all_below_more, look_same, look_other}

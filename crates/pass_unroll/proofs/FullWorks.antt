@@ -6,7 +6,7 @@ use Rattle.mlir_ir.specs.Operations.{labels_of, inner_labels}
 use Rattle.mlir_ir.specs.Runs.{number}
 use Rattle.mlir_ir.specs.Typed.{Types, TypedOp, TypedRegions}
 use Rattle.mlir_ir.specs.Words.{bits_of}
-use Rattle.pass_copy.specs.Arrivals.{Claim}
+use Rattle.pass_copy.specs.Reported.{Claim}
 use Rattle.pass_copy.specs.Renaming.{renamed}
 use Rattle.pass_copy.specs.Replaced.{op_labels}
 use Rattle.pass_copy.proofs.AlikeOps.{Works}
@@ -55,7 +55,7 @@ module _ (fresh : ℕ → List ℕ) (t : ℕ) (plan : Plan) (o : ForLoop) (T : T
       let e = mod-mod plan.lower (2 ^ w) in
       full_turns H ctx t t o.results o.lower o.upper o.step o.iv o.args o.inits o.inits last_ends o.body o.ends (number w plan.lower) (number w plan.upper) (number w plan.step)
       (number w (plan.lower + plan.count * plan.step)) plan.count (unrolled_full fresh t plan o)
-      (λ env h. planned_header t o plan env h) below hs.3 len (ends_length T t o typed inside)
+      (planned_header t o plan) below hs.3 len (ends_length T t o typed inside)
       (full_copied H fresh t o T typed inside f ctx covers below same plan.step (number w plan.upper) plan.count 0 t plan.lower o.inits len (omega arith)
       (inits_below H t o T typed inside f ctx covers below same)
       (goes_in w (plan.lower % 2 ^ w) plan.lower plan.upper plan.step plan.count turns e))

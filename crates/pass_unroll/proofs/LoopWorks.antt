@@ -5,10 +5,10 @@ use Rattle.std.specs.List.{list_all}
 use Rattle.arith_word.specs.declared.label.Label.{Label}
 use Rattle.mlir_ir.specs.Operations.{OpList, labels_of, inner_labels}
 use Rattle.mlir_ir.specs.Rules.{arg_types}
-use Rattle.mlir_ir.specs.Runs.{number, Binding}
+use Rattle.mlir_ir.specs.Runs.{number, Binding, Iteration, arrived}
 use Rattle.mlir_ir.specs.Typed.{Types, with_types, knows, TypedOp, TypedRegions}
 use Rattle.mlir_ir.specs.Words.{bits_of}
-use Rattle.pass_copy.specs.Arrivals.{Claim}
+use Rattle.pass_copy.specs.Reported.{Claim}
 use Rattle.pass_copy.specs.Renamed.{Naming, rename_ops}
 use Rattle.pass_copy.specs.Replaced.{op_labels}
 use Rattle.pass_copy.proofs.Bindings.{Scope, pair, pairs, In, All2, AllBelow, Below, below_more, below_pairs}
@@ -28,9 +28,9 @@ pub all_stay : (T : Types) (ctx : Scope) (ls : List Label) → Covers itself T c
 all_stay T ctx [] c h = tt
 all_stay T ctx (l ∷ ls) c h = let p = and_parts (knows T l) (list_all (knows T) ls) h in (c l.0 p.0, all_stay T ctx ls c p.1)
 
-pub planned_header : (t : ℕ) (o : ForLoop) (plan : Plan) (env : List Binding) → HasHeader t o plan t env
+pub planned_header : (t : ℕ) (o : ForLoop) (plan : Plan) (env : List Binding) (around : List Iteration) → HasHeader t o plan (arrived t env around)
     → Header o.lower o.upper o.step (number (bits_of o.iv.ty) plan.lower) (number (bits_of o.iv.ty) plan.upper) (number (bits_of o.iv.ty) plan.step) env
-planned_header t o plan env h = let x = h refl in record { is_lower = x.0; is_upper = x.1; is_step = x.2 }
+planned_header t o plan env around h = let x = h refl in record { is_lower = x.0; is_upper = x.1; is_step = x.2 }
 
 module _ (H : Claim) (t : ℕ) (o : ForLoop) (T : Types) (typed : TypedOp T o.packs o.results (operation_of o).kind) (inside : TypedRegions T t o.results (operation_of o).kind)
     (f : ℕ → ℕ) (ctx : Scope) (covers : Covers f T ctx) (below : Below t t ctx) (same : (y : ℕ) → y < t → f y ≡ y) where

@@ -4,7 +4,7 @@ use Rattle.arith_word.specs.declared.label.Label.{Label}
 use Rattle.mlir_ir.specs.Operations.{OpList, labels_of, joined}
 use Rattle.mlir_ir.specs.Runs.{Number, Binding, State, Cut, End, Stopped, look, numbers_of, binds, end_then}
 use Rattle.mlir_ir.proofs.RunTraces.{prefix_self}
-use Rattle.pass_copy.specs.Arrivals.{Claim}
+use Rattle.pass_copy.specs.Reported.{Claim}
 use Rattle.pass_copy.proofs.RunEnds.{Ending, spent, tick_end, goes_on, stepped, ends_counted, ends_ops}
 use Rattle.pass_copy.proofs.Claims.{counted_claim, ops_claim}
 use Rattle.pass_copy.proofs.Ahead.{Grows, Growing, grows_then, grows_ops, grows_counted, Dir, St, Joint, Ahead, ahead_both, tick_zero, st_le, then_then, then_tick, joined_ends}

@@ -5,7 +5,7 @@ use Rattle.mlir_ir.specs.Operations.{nil, labels_of}
 use Rattle.mlir_ir.specs.Runs.{Number, number, look}
 use Rattle.mlir_ir.specs.Typed.{Types, TypedOp, TypedRegions}
 use Rattle.mlir_ir.specs.Words.{bits_of}
-use Rattle.pass_copy.specs.Arrivals.{Claim}
+use Rattle.pass_copy.specs.Reported.{Claim}
 use Rattle.pass_copy.specs.Renamed.{names_of}
 use Rattle.pass_copy.proofs.Bindings.{Scope, bound, AllBelow, Below, all_below_more, look_same, look_other}
 use Rattle.pass_copy.proofs.RenamedAlike.{Covers}

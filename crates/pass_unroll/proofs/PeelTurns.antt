@@ -5,10 +5,11 @@ use Rattle.mlir_ir.specs.declared.types.Arg.{Arg}
 use Rattle.mlir_ir.specs.declared.types.IrType.{IrType}
 use Rattle.mlir_ir.specs.declared.types.Pack.{Pack}
 use Rattle.mlir_ir.specs.Operations.{Simple, Const, For, OpList, nil, next, labels_of, joined}
-use Rattle.mlir_ir.specs.Runs.{Number, number, Binding, look, numbers_of}
+use Rattle.mlir_ir.specs.Runs.{Number, number, Binding, Iteration, arrived, look, numbers_of}
 use Rattle.mlir_ir.specs.Words.{bits_of}
-use Rattle.pass_copy.specs.Arrivals.{Claim}
+use Rattle.pass_copy.specs.Reported.{Claim}
 use Rattle.pass_copy.proofs.RunEnds.{ends_counted, ends_ops, ends_kind}
+use Rattle.pass_copy.proofs.Claims.{told_inside}
 use Rattle.pass_copy.proofs.Ahead.{Ahead, ahead_weaker, joined_ends, then_done, grows_ops}
 use Rattle.pass_copy.proofs.Bindings.{Scope, bound, Same, Below, In, All2, AllBelow, pairs, below_more, same_in, numbers_same, numbers_length, numbers_kept, push_to, look_same, look_other}
 use Rattle.pass_copy.proofs.AlikeOps.{Joined, Works, AlikeOps}
@@ -32,7 +33,7 @@ module _ (H : Claim) (ctx ctxb : Scope) (at at' : ℕ) (results results' : List 
       gives_one name ty (Simple (Const w))
       (next packs' results' (For (record { 0 = q }) upper' step' iv' args' ys2 body' ends') nil)
 
-  pub peel_turns : ((env : List Binding) → H at env → Header lower upper step lo up st env) → Below at at' ctx → lower'.0 < at'
+  pub peel_turns : ((env : List Binding) (around : List Iteration) → H (arrived at env around) → Header lower upper step lo up st env) → Below at at' ctx → lower'.0 < at'
       → In lower.0 lower'.0 ctx → In upper.0 upper'.0 ctx → In step.0 step'.0 ctx → All2 ctx inits inits' → length inits ≡ length args → length ends ≡ length args
       → Copies H (λ e. look e lower'.0 ≡ lo) ctx up st (at + 1) (at + 2 + length args) body ends 1 at' lo inits' copies v2 ys2
       → q ≡ at' + labels_of copies → AllBelow q ys2 → number (bits_of ty) w ≡ v2
@@ -40,7 +41,8 @@ module _ (H : Claim) (ctx ctxb : Scope) (at at' : ℕ) (results results' : List 
       → Works H 1 ctx at at' results (For lower upper step iv args inits body ends) (joined copies peel_rest)
       (pairs (at + 2 + length args + labels_of body) (q + 1 + 2 + length args' + labels_of body') (length args) ctx)
   peel_turns header bl low ml mu ms mi il fe cs eq yb ew al es d n n' B B' c env s env' s' le le' j h =
-      let hd = header env h.0 in
+      let hd = header env h.0 h.1.0 in
+      let inside = told_inside H (For lower upper step iv args inits body ends) results n at env s h in
       let in_body = at + 2 + length args in
       let res = in_body + labels_of body in
       let ctx1 = pairs res (q + 1 + 2 + length args' + labels_of body') (length args) ctx in
@@ -48,7 +50,7 @@ module _ (H : Claim) (ctx ctxb : Scope) (at at' : ℕ) (results results' : List 
       rw (hd.is_step, hd.is_upper, hd.is_lower, joined_ends copies peel_rest n' at' env' s', ← eq)
       (copies_run H (λ e. look e lower'.0 ≡ lo) ctx up st at (at + 1) res in_body (length args) body ends env d n n' at' (λ e1 e2 k i. k lower'.0 low ∙ i) fe (omega arith) cs
       R n B B' c (numbers_of env inits) s env' s' (ends_ops peel_rest n' q) (omega arith) le le' (omega arith) bl j.same (sym (same_in ctx env env' lower.0 lower'.0 j.same ml) ∙ hd.is_lower)
-      (numbers_same ctx env env' inits inits' j.same mi) (numbers_length env inits ∙ il) j.st (rw (hd.is_step, hd.is_upper, hd.is_lower) at h.1)
+      (numbers_same ctx env env' inits inits' j.same mi) (numbers_length env inits ∙ il) j.st (rw (hd.is_step, hd.is_upper, hd.is_lower) at inside)
       (grows_ops peel_rest n' q)
       (λ m1 B1 xs2 s2 env2' s2' le1 lb1 lB e2 l2 same2 k2 st2 h2.
       let env3' = bound q (number (bits_of ty) w) ∷ env2' in

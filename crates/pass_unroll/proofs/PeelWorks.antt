@@ -6,7 +6,7 @@ use Rattle.mlir_ir.specs.Operations.{OpList, nil, next, labels_of, joined}
 use Rattle.mlir_ir.specs.Runs.{Number, number, look}
 use Rattle.mlir_ir.specs.Typed.{Types, TypedOp, TypedRegions, types_after}
 use Rattle.mlir_ir.specs.Words.{bits_of}
-use Rattle.pass_copy.specs.Arrivals.{Claim}
+use Rattle.pass_copy.specs.Reported.{Claim}
 use Rattle.pass_copy.specs.Renamed.{keep, relabels, rename_ops, names_of}
 use Rattle.pass_copy.specs.Renaming.{renamed}
 use Rattle.pass_copy.specs.Replaced.{op_labels, item_end}
@@ -117,7 +117,7 @@ module _ (fresh : ℕ → List ℕ) (t : ℕ) (plan : Plan) (o : ForLoop) (T : T
       (peel_turns H ctx b.behind t t o.results o.results o.packs o.lower o.upper o.step o.lower o.upper o.step o.iv o.iv o.args o.args o.inits o.inits ys2
       o.body (rename_ops f keep 0 o.body) o.ends (relabels f o.ends) lo (number w plan.upper) st second (joined nil (joined first nil)) (fresh (names_of o.body)) o.iv.ty
       ((plan.lower + plan.step) % 2 ^ w) q
-      (λ env h. planned_header t o plan env h) below all_low.0 hs.0 hs.1 hs.2 hs.3 len (ends_length T t o typed inside) one_copy
+      (planned_header t o plan) below all_low.0 hs.0 hs.1 hs.2 hs.3 len (ends_length T t o typed inside) one_copy
       (rw jn (omega (arith, e1))) all (number_rest w (plan.lower + plan.step) ∙ sym (number_sum w plan.lower plan.step)) b.alike yields)
 
   pub peel_works : WorksFrom H f 1 t (operation_of o) (peeled fresh t plan o) T ctx

@@ -5,7 +5,7 @@ use Rattle.mlir_ir.specs.declared.types.Arg.{Arg}
 use Rattle.mlir_ir.specs.declared.types.IrType.{IrType}
 use Rattle.mlir_ir.specs.Operations.{OpKind, For, OpList, labels_of}
 use Rattle.mlir_ir.specs.Runs.{Number, Binding, State, look, numbers_of}
-use Rattle.pass_copy.specs.Arrivals.{Claim}
+use Rattle.pass_copy.specs.Reported.{Claim}
 use Rattle.pass_copy.proofs.RunEnds.{ends_counted, ends_ops, ends_kind}
 use Rattle.pass_copy.proofs.Claims.{counted_claim, ops_claim}
 use Rattle.pass_copy.proofs.Ahead.{grows_ops, Dir, St, Ahead}

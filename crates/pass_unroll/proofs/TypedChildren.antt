@@ -11,6 +11,8 @@ use Rattle.pass_copy.specs.ItemLabels.{DoesItemFit}
 use Rattle.pass_copy.specs.Renamed.{names_of}
 use Rattle.pass_copy.specs.Renaming.{renamed}
 use Rattle.pass_copy.specs.Replaced.{op_labels}
+use Rattle.pass_copy.specs.Scopes.{AnyScope}
+use Rattle.pass_copy.proofs.LoopScopes.{any_scope}
 use Rattle.pass_copy.proofs.ChildLabels.{child_labels_fit}
 use Rattle.pass_copy.proofs.OldNames.{TypedThere, packed_ops, few_names}
 use Rattle.pass_copy.proofs.ItemPlaces.{in_item}
@@ -48,7 +50,7 @@ peeled_breaks f t plan child w p fit =
     let item = in_item f w t (operation_of o) p.stands in
     let names = body_names t o there in
     let count = peel_labels fresh t plan o item.whole in
-    child_breaks f w g t seg (operation_of o) child p.stands p.is fits (peel_types fresh t plan o item.whole) (peel_others fresh t plan o item.whole)
+    child_breaks f w g t seg (operation_of o) child p.stands p.is fits AnyScope (any_scope f t) (peel_types fresh t plan o item.whole) (peel_others fresh t plan o item.whole)
     (peel_names fresh label_limit (are_fresh f w) t o plan (omega (arith, names, count, few)))
 
 pub unrolled_full_breaks : (f : Func) (t : ℕ) (plan : Plan) (child : Func) → IsWellFormed f → IsUnrolledFull f t plan child → DoesItemFit child t → OnlySize (breaks child)
@@ -68,7 +70,7 @@ unrolled_full_breaks f t plan child w p fit =
     let count = full_labels fresh t o plan.step plan.count 0 t plan.lower o.inits in
     let one_more : 1 + names_of o.body ≤ 1 + labels_of o.body = omega (arith, names) in
     let le : plan.count * (1 + names_of o.body) ≤ plan.count * (1 + labels_of o.body) = mul-le-mul_left plan.count one_more in
-    child_breaks f w g t seg (operation_of o) child p.stands p.is fits (full_types fresh t o plan item.whole same_end n) (full_others fresh t o plan item.whole same_end n)
+    child_breaks f w g t seg (operation_of o) child p.stands p.is fits AnyScope (any_scope f t) (full_types fresh t o plan item.whole same_end n) (full_others fresh t o plan item.whole same_end n)
     (full_names fresh label_limit (are_fresh f w) t o plan (omega (arith, le, count, few)))
 
 pub unrolled_breaks : (f : Func) (t factor : ℕ) (plan : Plan) (child : Func) → IsWellFormed f → IsUnrolled f t factor plan child → DoesItemFit child t → OnlySize (breaks child)
@@ -83,5 +85,5 @@ unrolled_breaks f t factor plan child w p fit =
     let item = in_item f w t (operation_of o) p.stands in
     let packs = few_fresh f w t (operation_of o) p.stands in
     let same_end = item.same_end (t + 2 + length o.args + labels_of o.body) (omega arith) (omega arith) in
-    child_breaks f w g t seg (operation_of o) child p.stands p.is fits (unroll_types fresh t plan o factor item.whole same_end) (unroll_others fresh t plan o factor item.whole same_end)
+    child_breaks f w g t seg (operation_of o) child p.stands p.is fits AnyScope (any_scope f t) (unroll_types fresh t plan o factor item.whole same_end) (unroll_others fresh t plan o factor item.whole same_end)
     (unroll_names fresh label_limit (are_fresh f w) t o plan factor (body_names t o there) packs.packs few)

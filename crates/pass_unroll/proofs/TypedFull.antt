@@ -10,6 +10,7 @@ use Rattle.pass_copy.specs.Renaming.{renamed}
 use Rattle.pass_copy.specs.Replaced.{op_labels, item_end}
 use Rattle.pass_copy.specs.declared.renaming.Span.{Span}
 use Rattle.pass_copy.proofs.CarriedTypes.{Carries, Below, below_known, with_keeps, after_keeps, carries_then, or_some, carries_back}
+use Rattle.pass_copy.specs.Scopes.{AnyScope}
 use Rattle.pass_copy.proofs.TypedReplaced.{KeepsTypes}
 use Rattle.pass_copy.proofs.TypedChildren.{KeepsOthers}
 use Rattle.pass_unroll.specs.Children.{full_spans, unrolled_full}
@@ -113,12 +114,12 @@ module _ (fresh : ℕ → List ℕ) (t : ℕ) (o : ForLoop) where
       pub full_others : KeepsOthers f t
       full_others = record { before = f_before; after = f_after n }
 
-      pub full_types : KeepsTypes f t seg (item_end t) (operation_of o)
+      pub full_types : KeepsTypes AnyScope f t seg (item_end t) (operation_of o)
       full_types = record {
         before = f_before;
         moves = f_moves n;
         typed =
-            λ T T' b c b' h h2.
+            λ T T' held b c b' h h2.
             let whole_loop = for_from T t o.packs o.results o.lower o.upper o.step o.iv o.args o.inits o.body o.ends h h2 in
             let within : Carries same T T' = carries_back f T T' t f_before b c in
             let w = full_typed T b whole_loop plan.step plan.count 0 t plan.lower o.inits T' within b' (have_more T T' (arg_types o.args) o.inits within whole_loop.inits_are) in

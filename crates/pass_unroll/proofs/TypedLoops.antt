@@ -11,6 +11,7 @@ use Rattle.pass_copy.specs.Renaming.{renamed}
 use Rattle.pass_copy.specs.Replaced.{op_labels, item_end}
 use Rattle.pass_copy.proofs.CarriedTypes.{Carries, Below, Moves, below_with, carries_with, with_keeps, after_keeps, carries_then, scope_inside, carries_back}
 use Rattle.pass_copy.proofs.TypedRenamed.{packs_kept}
+use Rattle.pass_copy.specs.Scopes.{AnyScope}
 use Rattle.pass_copy.proofs.TypedReplaced.{KeepsTypes}
 use Rattle.pass_copy.proofs.TypedChildren.{KeepsOthers}
 use Rattle.pass_unroll.specs.Children.{main_first, main_body, main_ends, main_kind, main_names, rest_kind, rest_count, main_count, main_alone, main_and_rest, unrolled, unroll_spans}
@@ -287,12 +288,12 @@ module _ (fresh : ℕ → List ℕ) (t : ℕ) (plan : Plan) (o : ForLoop) (facto
     pub unroll_others : KeepsOthers f t
     unroll_others = record { before = f_before; after = f_after }
 
-    pub unroll_types : KeepsTypes f t seg (item_end t) (operation_of o)
+    pub unroll_types : KeepsTypes AnyScope f t seg (item_end t) (operation_of o)
     unroll_types = record {
       before = f_before;
       moves = λ l le lt. let e = f_inside l (omega (arith, le)) lt in let some = tail_some in omega (arith, e, le, some);
       typed =
-          λ T T' b c b' h h2.
+          λ T T' held b c b' h h2.
           let loop = for_from T t o.packs o.results o.lower o.upper o.step o.iv o.args o.inits o.body o.ends h h2 in
           (seg_typed T T' b c b' loop, seg_carries T T' b c b' loop);
     }

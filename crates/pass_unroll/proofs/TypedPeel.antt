@@ -7,6 +7,7 @@ use Rattle.pass_copy.specs.Renamed.{relabels, keep, anew, rename_ops, names_of}
 use Rattle.pass_copy.specs.Renaming.{renamed}
 use Rattle.pass_copy.specs.Replaced.{op_labels, item_end}
 use Rattle.pass_copy.proofs.CarriedTypes.{Carries, Below, Moves, below_more, moves_part, carries_with, with_keeps, after_keeps, carries_then, scope_inside, inside_below, inside_carried, carries_back}
+use Rattle.pass_copy.specs.Scopes.{AnyScope}
 use Rattle.pass_copy.proofs.TypedReplaced.{KeepsTypes}
 use Rattle.pass_copy.proofs.TypedChildren.{KeepsOthers}
 use Rattle.pass_unroll.specs.Children.{peel_spans, peeled}
@@ -134,12 +135,12 @@ module _ (fresh : ℕ → List ℕ) (t : ℕ) (plan : Plan) (o : ForLoop) (whole
   pub peel_others : KeepsOthers f t
   peel_others = record { before = f_before; after = f_after }
 
-  pub peel_types : KeepsTypes f t seg (item_end t) (operation_of o)
+  pub peel_types : KeepsTypes AnyScope f t seg (item_end t) (operation_of o)
   peel_types = record {
     before = f_before;
     moves = λ l le lt. let e = f_inside l (omega (arith, le)) lt in omega (arith, e, le, peel_labels);
     typed =
-        λ T T' b c b' h h2.
+        λ T T' held b c b' h h2.
         let loop = for_from T t o.packs o.results o.lower o.upper o.step o.iv o.args o.inits o.body o.ends h h2 in
         (seg_typed T T' b c b' loop, seg_carries T T' b c b' loop);
   }

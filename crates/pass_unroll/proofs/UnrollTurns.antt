@@ -5,11 +5,11 @@ use Rattle.mlir_ir.specs.declared.types.Arg.{Arg}
 use Rattle.mlir_ir.specs.declared.types.IrType.{IrType}
 use Rattle.mlir_ir.specs.declared.types.Pack.{Pack}
 use Rattle.mlir_ir.specs.Operations.{OpKind, Simple, Const, For, OpList, nil, next, labels_of, joined}
-use Rattle.mlir_ir.specs.Runs.{Number, number, Binding, State, Done, look, numbers_of, binds, end_then}
+use Rattle.mlir_ir.specs.Runs.{Number, number, Binding, Iteration, arrived, State, Done, look, numbers_of, binds, end_then}
 use Rattle.mlir_ir.specs.Words.{bits_of}
-use Rattle.pass_copy.specs.Arrivals.{Claim}
+use Rattle.pass_copy.specs.Reported.{Claim}
 use Rattle.pass_copy.proofs.RunEnds.{goes_on, ends_counted, ends_ops, ends_kind}
-use Rattle.pass_copy.proofs.Claims.{counted_claim, ops_claim}
+use Rattle.pass_copy.proofs.Claims.{counted_claim, ops_claim, told_inside}
 use Rattle.pass_copy.proofs.Ahead.{Dir, St, st_le, Ahead, ahead_weaker, ahead_done, then_done, grows_ops}
 use Rattle.pass_copy.proofs.Bindings.{Scope, bound, Same, Below, In, All2, pairs, linked, below_more, same_in, same_kept, numbers_same, numbers_length, push_to, push_these, look_same, look_other}
 use Rattle.pass_copy.proofs.AlikeOps.{Joined, Works, AlikeOps}
@@ -96,7 +96,7 @@ module _ (H : Claim) (ctx : Scope) (at at' : ℕ) (results : List IrType) (lower
         let p2 : at' + 2 + (2 + length args' + labels_of (joined copy others) + length results') ≡ q = omega arith in
         rw (e1, e2, p, p2, i1, i2, el, ex) refl
 
-    pub unroll_turns : (q : ℕ) → ((env : List Binding) → H at env → Header lower upper step lo up st env) → Below at at' ctx → In lower.0 lower'.0 ctx → All2 ctx inits inits'
+    pub unroll_turns : (q : ℕ) → ((env : List Binding) (around : List Iteration) → H (arrived at env around) → Header lower upper step lo up st env) → Below at at' ctx → In lower.0 lower'.0 ctx → All2 ctx inits inits'
         → length inits ≡ length args → length ends ≡ length args → length args' ≡ length args → others_count ≤ 31 → q ≡ main_res + length results'
         → number (bits_of ty1) w1 ≡ v2
         → AlikeOps H 0 (linked (at + 1) (label main_iv ∷ labels_from (main_iv + 1) (length args)) ctx) in_body main_in body copy ctxb → All2 ctxb ends ys2
@@ -104,7 +104,8 @@ module _ (H : Claim) (ctx : Scope) (at at' : ℕ) (results : List IrType) (lower
         → CarriesOn main_res q tail ctx1
         → Works H 0 ctx at at' results (For lower upper step iv args inits body ends) main_ops ctx1
     unroll_turns q header bl ml mi il fe al' few eq e1 al a2 mn finish d n n' B B' c env s env' s' le le' j h =
-        let hd = header env h.0 in
+        let hd = header env h.0 h.1.0 in
+        let inside = told_inside H (For lower upper step iv args inits body ends) results n at env s h in
         let us = number (bits_of ty2) w2 in
         let R = Joined ctx1 d B B' c in
         let env1' = bound at' v2 ∷ env' in
@@ -120,7 +121,7 @@ module _ (H : Claim) (ctx : Scope) (at at' : ℕ) (results : List IrType) (lower
         (main_run H ctx ctxb up st v2 us at at' (at + 1) main_iv res main_res in_body main_in (length args) others_count body copy others ends ys2 endsU
         env env2' d n n' fe (omega arith) (omega arith) (omega arith) few bl same2 al a2 mn
         R n n' B B' c (numbers_of env inits) s s' (ends_ops tail n' q) (omega arith) le le' (omega arith) (numbers_length env inits ∙ il)
-        (st_le d B B' B B' c (c + 0) s s' (omega arith) (omega arith) (omega arith) j.st) (rw (hd.is_step, hd.is_upper, hd.is_lower) at h.1)
+        (st_le d B B' B B' c (c + 0) s s' (omega arith) (omega arith) (omega arith) j.st) (rw (hd.is_step, hd.is_upper, hd.is_lower) at inside)
         (grows_ops tail n' q)
         (λ m1 B1 B1' xs2 s2 s2' le1 lb1 lB lB' l2 st2 h2.
         ahead_weaker d (Joined ctx1 d B1 B1' c) R _ _ (λ env4 s4 env4' s4' j4. joined_le ctx1 d B1 B1' B B' c c env4 s4 env4' s4' lB lB' (omega arith) j4)

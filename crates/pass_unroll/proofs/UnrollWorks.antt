@@ -10,7 +10,7 @@ use Rattle.mlir_ir.specs.Operations.{For, OpList, nil, next, labels_of, joined}
 use Rattle.mlir_ir.specs.Runs.{Number, number, look}
 use Rattle.mlir_ir.specs.Typed.{Types, TypedOp, TypedRegions, types_after}
 use Rattle.mlir_ir.specs.Words.{bits_of}
-use Rattle.pass_copy.specs.Arrivals.{Claim}
+use Rattle.pass_copy.specs.Reported.{Claim}
 use Rattle.pass_copy.specs.Renamed.{keep, anew, rename_arg, rename_args, rename_packs, rename_ops}
 use Rattle.pass_copy.specs.Renaming.{renamed}
 use Rattle.pass_copy.specs.Replaced.{op_labels, item_end}
@@ -222,7 +222,7 @@ module _ (fresh : ℕ → List ℕ) (t : ℕ) (plan : Plan) (o : ForLoop) (facto
       unroll_turns H ctx t t o.results o.lower o.upper o.step o.lower o.upper o.step o.iv o.args o.inits o.inits o.body o.ends (number w plan.lower) up (number w plan.step) bound_number
       first_alike.behind (fresh 0) (fresh 1) o.iv.ty o.iv.ty ((plan.lower + plan.count / factor * factor * plan.step) % 2 ^ w) (factor * plan.step % 2 ^ w) packs o.results o.iv o.args
       first others first_ends last_ends (factor - 1) (plan.count / factor) tail ctx1 (main_results + length o.results)
-      (λ env h. planned_header t o plan env h) below hs.0 hs.3 (inits_length T t o typed inside) (ends_length T t o typed inside) refl (omega arith) refl
+      (planned_header t o plan) below hs.0 hs.3 (inits_length T t o typed inside) (ends_length T t o typed inside) refl (omega arith) refl
       (number_rest w (plan.lower + plan.count / factor * factor * plan.step) ∙ same_bound)
       (subst (λ z. AlikeOps H 0 (linked (t + 1) (iv_label ∷ labels_from z (length o.args)) ctx) at_body main_in o.body first first_alike.behind) (omega arith) first_alike.alike)
       first_yields main_with_step finish

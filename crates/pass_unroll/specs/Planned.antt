@@ -5,7 +5,7 @@ use Rattle.arith_word.specs.declared.op.Pred.TheVariants.{Slt}
 use Rattle.mlir_ir.specs.Runs.{number, look}
 use Rattle.mlir_ir.specs.Words.{bits_of}
 use Rattle.mlir_ir.specs.declared.types.Func.{Func}
-use Rattle.pass_copy.specs.Arrivals.{Claim, HoldsIn}
+use Rattle.pass_copy.specs.Reported.{Claim, HoldsIn, at_arrivals}
 use Rattle.pass_copy.specs.Replaced.{StandsAt}
 use Rattle.pass_unroll.specs.Copies.{ForLoop, operation_of}
 use Rattle.pass_unroll.specs.Limits.{factor_limit}
@@ -18,10 +18,10 @@ pub record Turns (w lower upper step n : ℕ) : Type 0 where
 
 -- bounds and step of the loop have the plan's numbers wherever a run comes to label t
 abbrev pub HasHeader : ℕ → ForLoop → Plan → Claim
-HasHeader t o plan at env = at ≡ t
+HasHeader t o plan = at_arrivals (λ at env. at ≡ t
     → (look env o.lower.0 ≡ number (bits_of o.iv.ty) plan.lower)
     × (look env o.upper.0 ≡ number (bits_of o.iv.ty) plan.upper)
-    × (look env o.step.0 ≡ number (bits_of o.iv.ty) plan.step)
+    × (look env o.step.0 ≡ number (bits_of o.iv.ty) plan.step))
 
 -- a plan of the loop at label t
 pub record IsPlanned (f : Func) (t : ℕ) (plan : Plan) : Type 0 where
