@@ -44,10 +44,10 @@ module _ (g : ℕ → ℕ) (t : ℕ) (seg : OpList) (func : ℕ) where
 
   module _ (o : Operation) where
     -- the number of the loop's item
-    item_is : (k : ℕ) (ops : OpList) → k < item_count → label_at func k 0 ≤ t → t < label_at func (k + 1) 0 → item_of t ≡ k
+    pub item_is : (k : ℕ) (ops : OpList) → k < item_count → label_at func k 0 ≤ t → t < label_at func (k + 1) 0 → item_of t ≡ k
     item_is k ops few low high = omega arith
 
-    item_low : (k : ℕ) (items : List OpList) → StandsInItems t o func k items → ItemsFit items → k + length items ≤ item_count → k ≤ item_of t
+    pub item_low : (k : ℕ) (items : List OpList) → StandsInItems t o func k items → ItemsFit items → k + length items ≤ item_count → k ≤ item_of t
     item_low k [] s fit few = absurd s
     item_low k (ops ∷ items) (inl s) fit few =
         let a = stands t o ops (label_at func k 0) s in
@@ -78,7 +78,7 @@ module _ (g : ℕ → ℕ) (t : ℕ) (seg : OpList) (func : ℕ) where
         All-cons HasFewLabels item child (few_labels_of item (replaced g t seg L ops) (ap first_of e) (omega (arith, l, fit.0)))
         (fits_in (k + 1) items child (ap rest_of e) s fit.1 (omega arith) (subst (λ x. IfSome (slice_get (item ∷ child) x) HasFewLabels) z h))
 
-abbrev items_of_body : Option PlainBody → List OpList
+abbrev pub items_of_body : Option PlainBody → List OpList
 items_of_body None = []
 items_of_body (Some body) = body.items
 

@@ -28,6 +28,8 @@ pub mod FreshNames
 pub mod OldNames
 pub mod TypedChildren
 pub mod ChildLabels
+pub mod OneLoop
+pub mod ItemCounts
 pub mod CopiedOps
 pub mod ChildOps
 pub mod ListedNames

@@ -12,6 +12,7 @@ mod naming;
 mod places;
 mod renaming;
 mod replacing;
+mod room;
 mod same;
 mod taken;
 
@@ -23,4 +24,5 @@ pub use names::Names;
 pub use places::{advance, found_for, found_loop, is_loop, labels_in, pass_kind};
 pub use renaming::{Renaming, Span};
 pub use replacing::replace;
+pub use room::item_labels;
 pub use same::{region_of, same_arg, same_args, same_labels, same_packs};

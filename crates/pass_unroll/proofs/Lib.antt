@@ -35,3 +35,7 @@ pub mod MainLoop
 pub mod RenamedCounts
 pub mod RestLoop
 pub mod UnrolledLoops
+pub mod FullChild
+pub mod LoopRooms
+pub mod LoopCounts
+pub mod PeeledLoop

@@ -182,7 +182,7 @@ fn rest_parts(
 }
 
 /// Adds a loop with the results of the one that is unrolled. Returns the labels of its results.
-fn push_loop(
+pub(crate) fn push_loop(
     alloc: Global,
     out: &mut Out,
     source: &Source,
