@@ -24,7 +24,7 @@ use Rattle.scev_soundness.proofs.Branches.{branch_lengths}
 use Rattle.scev_soundness.proofs.Counted.{numbers_length}
 use Rattle.scev_soundness.proofs.Scopes.{with_more}
 use Rattle.scev_soundness.proofs.LoopUses.{for_inits, for_results, for_ends, while_inits, while_passed, while_params, while_ends}
-use Rattle.pass_copy.specs.Reported.{Claim, AllHoldAt}
+use Rattle.pass_copy.specs.Reported.{AllHoldAt, at_arrivals}
 use Rattle.pass_chain.proofs.Positions.{Extends, with_extends, after_extends, AtEach, AtEachInside, AtEachItem}
 
 -- ---- values in scope that are bound
@@ -62,49 +62,49 @@ bound_binds T tys ns at env many h l ty e = of (T l) refl e
 bound_less : (T U : Types) (env : List Binding) → Extends T U → AreBound U env → AreBound T env
 bound_less T U env less h l ty e = h l ty (less l ty e)
 
--- ---- segments of which a claim holds
+-- ---- segments in which a condition holds wherever a run comes to an operation
 
-module _ (H : Claim) where
-  -- it holds of all reports, and where the segment ends the values in scope have the property
-  pub record IsTold (r : Segment) (Q : List Binding → Type 0) : Type 0 where
-    pub holds : AllHoldAt H r.reports
+module _ (H : ℕ → List Binding → Type 0) where
+  -- it holds at all arrivals, and where the segment ends the values in scope have the property
+  pub record SegmentTold (r : Segment) (Q : List Binding → Type 0) : Type 0 where
+    pub holds : AllHoldAt (at_arrivals H) r.reports
     pub ends : Ends r.end Q
 
-  all_both : (a b : List Report) → AllHoldAt H a → AllHoldAt H b → AllHoldAt H (a ++ b)
+  all_both : (a b : List Report) → AllHoldAt (at_arrivals H) a → AllHoldAt (at_arrivals H) b → AllHoldAt (at_arrivals H) (a ++ b)
   all_both [] b p q = q
   all_both (v ∷ a) b p q = (p.0, all_both a b p.1 q)
 
   then_parts : (e : End) (vs : List Report) (P Q : List Binding → Type 0) (go : List Binding → State → Segment)
-      → AllHoldAt H vs → Ends e P → ((env : List Binding) (s : State) → P env → IsTold (go env s) Q)
-      → AllHoldAt H (vs ++ reports_then e (λ env s. (go env s).reports)) × Ends (end_then e (λ env s. (go env s).end)) Q
+      → AllHoldAt (at_arrivals H) vs → Ends e P → ((env : List Binding) (s : State) → P env → SegmentTold (go env s) Q)
+      → AllHoldAt (at_arrivals H) (vs ++ reports_then e (λ env s. (go env s).reports)) × Ends (end_then e (λ env s. (go env s).end)) Q
   then_parts (Done env s) vs P Q go h p k = let q = k env s p in (all_both vs _ h q.holds, q.ends)
   then_parts (Stopped stop trace) vs P Q go h p k = (all_both vs [] h tt, tt)
 
-  told_then : (r : Segment) (P Q : List Binding → Type 0) (go : List Binding → State → Segment) → IsTold r P
-      → ((env : List Binding) (s : State) → P env → IsTold (go env s) Q) → IsTold (run_then r go) Q
+  told_then : (r : Segment) (P Q : List Binding → Type 0) (go : List Binding → State → Segment) → SegmentTold r P
+      → ((env : List Binding) (s : State) → P env → SegmentTold (go env s) Q) → SegmentTold (run_then r go) Q
   told_then r P Q go s k = let p = then_parts r.end r.reports P Q go s.holds s.ends k in record { holds = p.0; ends = p.1 }
 
-  told_if : (t : Bool) (r s : Segment) (Q : List Binding → Type 0) → (t ≡ true → IsTold r Q)
-      → (t ≡ false → IsTold s Q) → IsTold (if t then r else s) Q
+  told_if : (t : Bool) (r s : Segment) (Q : List Binding → Type 0) → (t ≡ true → SegmentTold r Q)
+      → (t ≡ false → SegmentTold s Q) → SegmentTold (if t then r else s) Q
   told_if true r s Q a b = a refl
   told_if false r s Q a b = b refl
 
-  told_stop : (stop : Stop) (s : State) (Q : List Binding → Type 0) → IsTold (stops stop s) Q
+  told_stop : (stop : Stop) (s : State) (Q : List Binding → Type 0) → SegmentTold (stops stop s) Q
   told_stop stop s Q = record { holds = tt; ends = tt }
 
-  told_tick : (s : State) (go : State → Segment) (Q : List Binding → Type 0) → ((later : State) → IsTold (go later) Q)
-      → IsTold (tick s go) Q
+  told_tick : (s : State) (go : State → Segment) (Q : List Binding → Type 0) → ((later : State) → SegmentTold (go later) Q)
+      → SegmentTold (tick s go) Q
   told_tick s go Q k = told_if (s.budget == 0) _ _ Q (λ e. told_stop Cut s Q) (λ e. k _)
 
   definitions_told : (ns : List Number) (at : ℕ) (around : List Iteration) (env : List Binding)
-      → AllHoldAt H (definitions at ns around env)
+      → AllHoldAt (at_arrivals H) (definitions at ns around env)
   definitions_told [] at around env = tt
   definitions_told (n ∷ ns) at around env =
       (tt, definitions_told ns (at + 1) around (record { label = at; number = n } ∷ env))
 
   defines_told : (T : Types) (tys : List IrType) (ns : List Number) (at : ℕ) (around : List Iteration)
       (env : List Binding) (s : State) → length ns ≡ length tys → AreBound T env
-      → IsTold (defines at ns around env s) (λ w. AreBound (with_types T at tys) w)
+      → SegmentTold (defines at ns around env s) (λ w. AreBound (with_types T at tys) w)
   defines_told T tys ns at around env s many h =
       record { holds = definitions_told ns at around env; ends = bound_binds T tys ns at env many h }
 
@@ -126,12 +126,12 @@ module _ (H : Claim) where
     abbrev Behind : List Binding → Type 0
     Behind w = AreBound (with_types T at results) w
 
-    gives_told : (s : State) (x : Option ℕ) → (length results == 1) ≡ true → IsTold (gives at results around env s x) Behind
+    gives_told : (s : State) (x : Option ℕ) → (length results == 1) ≡ true → SegmentTold (gives at results around env s x) Behind
     gives_told s None one = told_stop _ s Behind
     gives_told s (Some v) one =
         defines_told T results (numbers_at results (v ∷ [])) at around env s (one_number results v one) h
 
-    answers_told : (s : State) → IsTold (answers at results around env s) Behind
+    answers_told : (s : State) → SegmentTold (answers at results around env s) Behind
     answers_told s =
         told_if (nat_lt (length s.replies) (length results)) (stops Starved s)
         (defines at (numbers_at results s.replies) around env (record s { replies = drop (length results) s.replies }))
@@ -140,7 +140,7 @@ module _ (H : Claim) where
         (record s { replies = drop (length results) s.replies }) (many_numbers results s.replies e) h)
 
     simple_told : (does : SimpleOp) (s : State) → simple_counts (length results) does ≡ true
-        → IsTold (run_simple at results around env s does) Behind
+        → SegmentTold (run_simple at results around env s does) Behind
     simple_told (Const v) s c = gives_told s (computed env (result_bits results) (Const v)) c
     simple_told (Bin op flags a b) s c = gives_told s (computed env (result_bits results) (Bin op flags a b)) c
     simple_told (Cast op flags a) s c = gives_told s (computed env (result_bits results) (Cast op flags a)) c
@@ -154,8 +154,8 @@ module _ (H : Claim) where
   -- ---- loops
 
   hands_told : (T : Types) (results : List IrType) (at : ℕ) (ends : List Label) (around : List Iteration)
-      (env : List Binding) (r : Segment) (Q : List Binding → Type 0) → IsTold r Q → length ends ≡ length results
-      → AreBound T env → IsTold (hands at ends around env r) (λ w. AreBound (with_types T at results) w)
+      (env : List Binding) (r : Segment) (Q : List Binding → Type 0) → SegmentTold r Q → length ends ≡ length results
+      → AreBound T env → SegmentTold (hands at ends around env r) (λ w. AreBound (with_types T at results) w)
   hands_told T results at ends around env r Q t many h =
       told_then r Q (λ w. AreBound (with_types T at results) w)
       (λ inner s. defines at (numbers_of inner ends) around env s) t
@@ -163,7 +163,7 @@ module _ (H : Claim) where
 
   leaves_told : (T : Types) (results : List IrType) (place : Place) (k : ℕ) (ns : List Number) (s : State)
       → length ns ≡ length results → AreBound T place.env
-      → IsTold (leaves place k ns s) (λ w. AreBound (with_types T place.res results) w)
+      → SegmentTold (leaves place k ns s) (λ w. AreBound (with_types T place.res results) w)
   leaves_told T results place k ns s many h = record {
     holds = (tt, definitions_told ns place.res place.around place.env);
     ends = bound_binds T results ns place.res place.env many h;
@@ -172,13 +172,13 @@ module _ (H : Claim) where
   -- a region, from the scope in which it begins to that in which it ends
   abbrev IsRegion : Running → Types → Types → Type 0
   IsRegion body U V = (turns : List Iteration) (env : List Binding) (s : State) → AreBound U env
-      → IsTold (body turns env s) (λ w. AreBound V w)
+      → SegmentTold (body turns env s) (λ w. AreBound V w)
 
   -- values are defined, and a region runs behind
   begins_told : (T U V : Types) (tys : List IrType) (at : ℕ) (ns : List Number) (turns : List Iteration)
       (env : List Binding) (s : State) (body : Running) → length ns ≡ length tys → AreBound T env
       → Extends U (with_types T at tys) → IsRegion body U V
-      → IsTold (run_then (defines at ns turns env s) (body turns)) (λ w. AreBound V w)
+      → SegmentTold (run_then (defines at ns turns env s) (body turns)) (λ w. AreBound V w)
   begins_told T U V tys at ns turns env s body many h same region =
       told_then (defines at ns turns env s) (λ w. AreBound (with_types T at tys) w) (λ w. AreBound V w) (body turns)
       (defines_told T tys ns at turns env s many h)
@@ -192,7 +192,7 @@ module _ (H : Claim) where
         → Extends U (with_types T (place.at + 1) (iv ∷ tys)) → IsRegion body U V → length ends ≡ length tys
         → length tys ≡ length results
         → (fuel : ℕ) (upper step v : Number) (k : ℕ) (args : List Number) (s : State) → length args ≡ length tys
-        → IsTold (counted fuel body place ends upper step v k args s) Left
+        → SegmentTold (counted fuel body place ends upper step v k args s) Left
     counted_told iv tys U V body ends same region many gives zero upper step v k args s size =
         told_if (holds Slt v.w v.v upper.v) (stops Cut s) (leaves place k args s) Left (λ e. told_stop Cut s Left)
         (λ e. leaves_told T results place k args s (size ∙ gives) h)
@@ -211,7 +211,7 @@ module _ (H : Claim) where
         → A ≡ with_types T params params_tys → IsRegion after A X → length ends ≡ length tys
         → length passed ≡ length params_tys → length passed ≡ length results
         → (fuel k : ℕ) (args : List Number) (s : State) → length args ≡ length tys
-        → IsTold (repeated fuel before after place params cond passed ends k args s) Left
+        → SegmentTold (repeated fuel before after place params cond passed ends k args s) Left
     repeated_told tys params_tys U V A X before after params cond passed ends same tests keeps is runs many fits gives zero k args s size =
         told_then _ (λ w. AreBound V w) Left _
         (begins_told T U V tys (place.at + 1) args (in_turn place k) place.env s before size h same tests)
@@ -237,7 +237,7 @@ module _ (H : Claim) where
     mutual
       pub ops_told : (ops : OpList) (T : Types) (fuel at : ℕ) (around : List Iteration) (env : List Binding) (s : State)
           → TypedOps T at ops → AtEach P T at ops → AreBound T env
-          → IsTold (run_ops ops fuel at around env s) (λ w. AreBound (types_after T at ops) w)
+          → SegmentTold (run_ops ops fuel at around env s) (λ w. AreBound (types_after T at ops) w)
       ops_told nil T fuel at around env s t p h = record { holds = tt; ends = h }
       ops_told (next packs results kind rest) T fuel at around env s t p h =
           let mid = at + (inner_labels kind + length results) in
@@ -251,11 +251,11 @@ module _ (H : Claim) where
       kind_told : (kind : OpKind) (packs : List Pack) (results : List IrType) (T : Types) (fuel at : ℕ)
           (around : List Iteration) (env : List Binding) (s : State) → TypedOp T packs results kind
           → TypedRegions T at results kind → AtEachInside P T at kind → AreBound T env
-          → IsTold (run_kind kind results fuel at around env s)
+          → SegmentTold (run_kind kind results fuel at around env s)
           (λ w. AreBound (with_types T (at + inner_labels kind) results) w)
       kind_told (Simple does) packs results T fuel at around env s t r p h =
           let e : at + 0 ≡ at = omega arith in
-          subst (λ l. IsTold (run_simple at results around env s does) (λ w. AreBound (with_types T l results) w)) (sym e)
+          subst (λ l. SegmentTold (run_simple at results around env s does) (λ w. AreBound (with_types T l results) w)) (sym e)
           (simple_told T at results around env h does s t.counted)
       kind_told (If c first firsts has_else other others) packs results T fuel at around env s t r p h =
           let mid = at + labels_of first in
@@ -264,7 +264,7 @@ module _ (H : Claim) where
           let lengths = branch_lengths results firsts others t.counted r.1.counted r.3.counted in
           let run_first = run_ops first fuel at around env s in
           let run_other = run_ops other fuel mid around env s in
-          subst (λ l. IsTold (run_kind (If c first firsts has_else other others) results fuel at around env s)
+          subst (λ l. SegmentTold (run_kind (If c first firsts has_else other others) results fuel at around env s)
           (λ w. AreBound (with_types T l results) w)) (sym e)
           (told_if (is_false env c) (hands res others around env run_other) (hands res firsts around env run_first)
           (λ w. AreBound (with_types T res results) w)
@@ -283,7 +283,7 @@ module _ (H : Claim) where
           let inits_many = have_bits_length T tys inits (for_inits T packs results lower upper step iv args inits body ends at t) in
           let ends_many = have_bits_length V tys ends (for_ends T packs results lower upper step iv args inits body ends at t r) in
           let gives = for_results T packs results lower upper step iv args inits body ends at t in
-          subst (λ l. IsTold (run_kind (For lower upper step iv args inits body ends) results fuel at around env s)
+          subst (λ l. SegmentTold (run_kind (For lower upper step iv args inits body ends) results fuel at around env s)
           (λ w. AreBound (with_types T l results) w)) (sym e)
           (counted_told T place results h iv.ty tys U V (run_ops body fuel in_body) ends
           (λ l ty k. (let g : with_types (with_types T (at + 1) (iv.ty ∷ [])) (at + 1 + 1) tys l ≡ Some ty
@@ -312,7 +312,7 @@ module _ (H : Claim) where
           let gives = have_bits_length V results passed (while_passed T packs results args inits before passed cond after_args after ends at t r) in
           let fits = have_bits_length V after_tys passed (while_params T packs results args inits before passed cond after_args after ends at t r) in
           let many = have_bits_length X tys ends (while_ends T packs results args inits before passed cond after_args after ends at t r) in
-          subst (λ l. IsTold (run_kind (While args inits before passed cond after_args after ends) results fuel at around env s)
+          subst (λ l. SegmentTold (run_kind (While args inits before passed cond after_args after ends) results fuel at around env s)
           (λ w. AreBound (with_types T l results) w)) (sym e)
           (repeated_told T place results h tys after_tys U V A X (run_ops before fuel in_before) (run_ops after fuel in_after)
           params cond passed ends (λ l ty k. k)
@@ -325,7 +325,7 @@ module _ (H : Claim) where
 
     items_told : (items : List OpList) (T : Types) (func k fuel : ℕ) (env : List Binding) (s : State)
         → TypedItems T func k items → AtEachItem P T func k items → AreBound T env
-        → IsTold (run_items func k items fuel env s) (λ w. Unit {0})
+        → SegmentTold (run_items func k items fuel env s) (λ w. Unit {0})
     items_told [] T func k fuel env s t p h = record { holds = tt; ends = tt }
     items_told (ops ∷ items) T func k fuel env s t p h =
         let U = types_after T (label_at func k 0) ops in
@@ -342,7 +342,7 @@ module _ (H : Claim) where
     pub body_told : (f : Func) (body : Body) (args replies : List ℕ) (budget : ℕ) → length args ≡ length f.args
         → TypedItems (args_typed f.index f.args) f.index 1 (view_items body.items)
         → AtEachItem P (args_typed f.index f.args) f.index 1 (view_items body.items)
-        → AllHoldAt H (run_body f body args replies budget).reports
+        → AllHoldAt (at_arrivals H) (run_body f body args replies budget).reports
     body_told f body args replies budget many t p =
         let tys = arg_types f.args in
         let begin : State = record { budget = budget; replies = replies; trace = [] } in

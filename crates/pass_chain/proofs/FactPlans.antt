@@ -5,6 +5,7 @@ use Rattle.std.proofs.Math.Nat.{mod-lt, mod-eq_of_lt}
 use Rattle.std.specs.Option.{option_map_or}
 use Rattle.arith_word.specs.declared.label.Label.{Label}
 use Rattle.arith_word.specs.declared.op.Pred.TheVariants.{Slt}
+use Rattle.mlir_ir.proofs.LabelsFit.{labels_fit}
 use Rattle.mlir_ir.proofs.SizedFunctions.{well_formed}
 use Rattle.mlir_ir.specs.Check.{IsWellFormed}
 use Rattle.mlir_ir.specs.Operations.{OpKind, For}
@@ -28,12 +29,12 @@ use Rattle.scev_soundness.specs.Holding.{HasValue, IsBound, AllHold, point}
 use Rattle.scev_soundness.proofs.Functions.{function_sound}
 use Rattle.scev_soundness.proofs.LoopUses.{for_bounds}
 use Rattle.scev_soundness.proofs.Rounds.{last_inside}
-use Rattle.pass_copy.specs.Reported.{Claim, AllHoldAt, HoldsIn}
+use Rattle.pass_copy.specs.Reported.{AllHoldAt, HoldsIn, at_arrivals}
 use Rattle.pass_copy.specs.Replaced.{Operation, StandsInBody, StandsAt}
+use Rattle.pass_copy.proofs.AloneLoops.{alone_at_label}
 use Rattle.pass_unroll.specs.Copies.{ForLoop, operation_of}
 use Rattle.pass_unroll.specs.Planned.{Turns, HasHeader, IsPlanned}
 use Rattle.pass_unroll.specs.declared.plan.Plan.{Plan}
-use Rattle.pass_chain.proofs.Stands.{one_at_label}
 use Rattle.pass_chain.proofs.Positions.{Extends, AtLabel, around_items}
 use Rattle.pass_chain.proofs.BoundRuns.{AreBound, body_told}
 use Rattle.pass_chain.proofs.LoopFacts.{has_clause}
@@ -80,7 +81,7 @@ module _ (t : ℕ) (o : ForLoop) where
       let b = for_bounds T o.packs o.results o.lower o.upper o.step o.iv o.args o.inits o.body o.ends t typed in
       ((b.0.its, b.0.known), (b.1.its, b.1.known), (b.2.its, b.2.known))
 
-  abbrev Bound : Claim
+  abbrev Bound : ℕ → List Binding → Type 0
   Bound at env = at ≡ t → IsBound env o.lower.0 × IsBound env o.upper.0 × IsBound env o.step.0
 
   known_bound : (T : Types) (at : ℕ) (env : List Binding) → (at ≡ t → AreKnown T) → AreBound T env → Bound at env
@@ -90,7 +91,7 @@ module _ (t : ℕ) (o : ForLoop) where
 
   bound_in : (f : Func) (body : Option Body) (args replies : List ℕ) (budget : ℕ) → length args ≡ length f.args
       → IsTypedBody f body → IsSizedBody body → StandsInBody t (operation_of o) f.index body
-      → AllHoldAt Bound (option_map_or (λ body. run_body f body args replies budget) body run_declared).reports
+      → AllHoldAt (at_arrivals Bound) (option_map_or (λ body. run_body f body args replies budget) body run_declared).reports
   bound_in f None args replies budget many typed sized h = absurd h
   bound_in f (Some body) args replies budget many typed sized h =
       body_told Bound (AtLabel t (operation_of o) AreKnown more_known own_known) known_bound f body args replies budget
@@ -122,7 +123,7 @@ module _ (f : Func) (F : Facts) (t : ℕ) (o : ForLoop) (plan : Plan) (well : Is
   abbrev w : ℕ
   w = bits_of o.iv.ty
 
-  headed_in : (reports : List Report) → AllHold F reports → AllHoldAt (Bound t o) reports
+  headed_in : (reports : List Report) → AllHold F reports → AllHoldAt (at_arrivals (Bound t o)) reports
       → AllHoldAt (HasHeader t o plan) reports
   headed_in [] h b = tt
   headed_in (arrived at env around ∷ reports) h b = (
@@ -154,7 +155,7 @@ module _ (f : Func) (F : Facts) (t : ℕ) (o : ForLoop) (plan : Plan) (well : Is
       (subst (λ c. AreComparedTurns t Slt (F.expr (t + 1)) (F.expr o.upper.0) c) turns clause.1.1)
 
   same_at : (q : ForLoop) → StandsAt f t (operation_of q) → o ≡ q
-  same_at q h = same_loop o q (one_at_label t (operation_of o) (operation_of q) f (well_formed f well).2.inside stands h)
+  same_at q h = same_loop o q (alone_at_label f (labels_fit f well) t (operation_of o) (operation_of q) stands h)
 
   -- where bounds and step are numbers, and the trip count is one
   pub facts_plan : IsPlanned f t plan

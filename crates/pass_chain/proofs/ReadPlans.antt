@@ -6,7 +6,7 @@ use Rattle.std.proofs.Math.Nat.{mod-lt, mod-eq_of_lt}
 use Rattle.arith_word.specs.Labels.{label_at}
 use Rattle.arith_word.specs.declared.label.Label.{Label}
 use Rattle.arith_word.specs.declared.op.Pred.TheVariants.{Slt}
-use Rattle.mlir_ir.proofs.SizedFunctions.{well_formed}
+use Rattle.mlir_ir.proofs.LabelsFit.{labels_fit}
 use Rattle.mlir_ir.specs.Check.{IsWellFormed}
 use Rattle.mlir_ir.specs.Operations.{OpKind, Simple, If, For, While, OpList, nil, next, labels_of, inner_labels}
 use Rattle.mlir_ir.specs.View.{view_items}
@@ -45,7 +45,7 @@ use Rattle.pass_chain.specs.declared.bounds.Bounds.{Bounds}
 use Rattle.pass_chain.proofs.CountedBounds.{HasNumbers, IsNumber, counted_bounds}
 use Rattle.pass_chain.proofs.FactPlans.{same_loop, facts_plan}
 use Rattle.pass_chain.proofs.LoopFacts.{has_clause}
-use Rattle.pass_chain.proofs.Stands.{one_at_label}
+use Rattle.pass_copy.proofs.AloneLoops.{alone_at_label}
 
 -- ---- what a loop uses is defined before
 
@@ -244,7 +244,7 @@ module _ (F : plain.Facts) (f : Func) (t : ℕ) (b : Bounds) (plan : Plan) (well
 
   same_at : (q : ForLoop) → StandsAt f t (operation_of q) → p.o ≡ q
   same_at q h = same_loop p.o q
-      (one_at_label t (operation_of p.o) (operation_of q) f (well_formed f well).2.inside p.stands h)
+      (alone_at_label f (labels_fit f well) t (operation_of p.o) (operation_of q) p.stands h)
 
   same_width : (q : ForLoop) → StandsAt f t (operation_of q) → w ≡ bits_of q.iv.ty
   same_width q h =

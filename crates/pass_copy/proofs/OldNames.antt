@@ -13,7 +13,7 @@ use Rattle.arith_word.specs.Labels.{label_at}
 use Rattle.mlir_ir.specs.Labels.{row_labels, kind_labels, op_labels, ops_labels}
 use Rattle.mlir_ir.specs.Operations as plain
 use Rattle.mlir_ir.specs.Rules.{arg_types, packs_hold}
-use Rattle.mlir_ir.specs.Typed.{Types, with_types, types_after, TypedOp, TypedOps, TypedRegions, TypedItems}
+use Rattle.mlir_ir.specs.Typed.{Types, with_types, types_after, TypedOps, TypedRegions, TypedItems}
 use Rattle.mlir_ir.specs.Values.{Value, arg_values, pack_values, result_values, row_values, kind_values, op_values, ops_values, items_values}
 use Rattle.mlir_ir.specs.View.{view_row, view_kind, view_ops, view_items}
 use Rattle.mlir_ir.specs.declared.types.Arg.{Arg}
@@ -105,33 +105,6 @@ module _ (t : ℕ) (o : Operation) where
     inside_few at (plain.While args inits before passed cond after_args after ends) (inl s) h = stands_few (at + 1 + length args) before s h.0
     inside_few at (plain.While args inits before passed cond after_args after ends) (inr s) h =
         stands_few (at + 1 + length args + plain.labels_of before + length after_args) after s h.1
-
--- a scope in which the loop that stands in operations is typed
-pub record TypedThere (t : ℕ) (o : Operation) : Type 0 where
-  pub scope : Types
-  pub op : TypedOp scope o.packs o.results o.kind
-  pub regions : TypedRegions scope t o.results o.kind
-
-module _ (t : ℕ) (o : Operation) where
-  mutual
-    pub stands_typed : (T : Types) (at : ℕ) (ops : plain.OpList) → StandsIn t o at ops → TypedOps T at ops → TypedThere t o
-    stands_typed T at plain.nil s h = absurd s
-    stands_typed T at (plain.next packs results kind rest) (inl s) h =
-        subst (λ x. TypedThere t x) s.2 (record { scope = T; op = h.0; regions = subst (λ p. TypedRegions T p results kind) s.0 h.1 })
-    stands_typed T at (plain.next packs results kind rest) (inr (inl s)) h = inside_typed T at results kind s h.1
-    stands_typed T at (plain.next packs results kind rest) (inr (inr s)) h =
-        stands_typed (with_types T (at + plain.inner_labels kind) results) (at + (plain.inner_labels kind + length results)) rest s h.2
-
-    inside_typed : (T : Types) (at : ℕ) (results : List IrType) (kind : plain.OpKind) → StandsInside t o at kind → TypedRegions T at results kind → TypedThere t o
-    inside_typed T at results (plain.Simple does) s h = absurd s
-    inside_typed T at results (plain.If c first firsts has_else other others) (inl s) h = stands_typed T at first s h.0
-    inside_typed T at results (plain.If c first firsts has_else other others) (inr s) h = stands_typed T (at + plain.labels_of first) other s h.2
-    inside_typed T at results (plain.For lower upper step iv args inits body ends) s h =
-        stands_typed (with_types (with_types T (at + 1) (iv.ty ∷ [])) (at + 2) (arg_types args)) (at + 2 + length args) body s h.0
-    inside_typed T at results (plain.While args inits before passed cond after_args after ends) (inl s) h = stands_typed (with_types T (at + 1) (arg_types args)) (at + 1 + length args) before s h.0
-    inside_typed T at results (plain.While args inits before passed cond after_args after ends) (inr s) h =
-        let c = at + 1 + length args + plain.labels_of before in
-        stands_typed (with_types T c (arg_types after_args)) (c + length after_args) after s h.3
 
 -- no more values than labels
 

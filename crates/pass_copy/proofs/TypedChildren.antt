@@ -30,7 +30,7 @@ use Rattle.mlir_ir.proofs.TypedFunctions.{func_back}
 use Rattle.pass_copy.specs.Fresh.{value_names, free_number, fresh_names}
 use Rattle.pass_copy.specs.Renamed.{relabels}
 use Rattle.pass_copy.specs.Replaced.{Operation, item_end, StandsInItems, StandsInBody, StandsAt, replaced_items, replaced_body, replaced_func}
-use Rattle.pass_copy.specs.Scopes.{ScopeInBody, HasScope}
+use Rattle.pass_copy.specs.Scopes.{ScopeInBody, HasScope, AnyScope}
 use Rattle.pass_copy.proofs.CarriedTypes.{Carries, Below, below_known, below_with}
 use Rattle.pass_copy.proofs.TypedRenamed.{end_kept, passes_kept}
 use Rattle.pass_copy.proofs.NamedRenamed.{AreFresh, Unused, OldArgs, unused_args}
@@ -38,9 +38,10 @@ use Rattle.pass_copy.proofs.UntouchedParts.{stands, found_labels}
 use Rattle.pass_copy.proofs.TypedReplaced.{KeepsTypes}
 use Rattle.pass_copy.proofs.NamedReplaced.{KeepsNames}
 use Rattle.pass_copy.proofs.ItemPlaces.{ItemsFit, items_fit, length_items, stands_behind}
+use Rattle.pass_copy.proofs.LoopScopes.{ScopedThere, any_scope, scope_and_stands}
 use Rattle.pass_copy.proofs.TypedItems.{OldItems, found_items, found_items_named}
 use Rattle.pass_copy.proofs.FreshNames.{name_numbered, numbered_apart, number_free, number_rises, number_low}
-use Rattle.pass_copy.proofs.OldNames.{items_count, args_old, items_old, packed_ops, FewNames, stands_few, TypedThere, stands_typed, arg_count, front, back}
+use Rattle.pass_copy.proofs.OldNames.{items_count, args_old, items_old, packed_ops, FewNames, stands_few, arg_count, front, back}
 use Rattle.pass_copy.proofs.RenamedOps.{arg_types_length}
 
 -- functions as plain data
@@ -140,26 +141,17 @@ few_names_in t o func k T [] s h = absurd s
 few_names_in t o func k T (ops ∷ items) (inl s) h = stands_few t o (label_at func k 0) ops s (packed_ops T (label_at func k 0) ops h.0)
 few_names_in t o func k T (ops ∷ items) (inr s) h = few_names_in t o func (k + 1) (types_after T (label_at func k 0) ops) items s h.1
 
-typed_there_in : (t : ℕ) (o : Operation) (func k : ℕ) (T : Types) (items : List OpList) → StandsInItems t o func k items → TypedItems T func k items → TypedThere t o
-typed_there_in t o func k T [] s h = absurd s
-typed_there_in t o func k T (ops ∷ items) (inl s) h = stands_typed t o T (label_at func k 0) ops s h.0
-typed_there_in t o func k T (ops ∷ items) (inr s) h = typed_there_in t o func (k + 1) (types_after T (label_at func k 0) ops) items s h.1
-
 names_few_of : (f : Func) (t : ℕ) (o : Operation) (body : Option Body) → StandsInBody t o f.index body → IsTypedBody f body → FewNames o
 names_few_of f t o None s h = absurd s
 names_few_of f t o (Some body) s h = few_names_in t o f.index 1 (args_typed f.index f.args) (view_items body.items) s h.inside
-
-loop_typed_in : (f : Func) (t : ℕ) (o : Operation) (body : Option Body) → StandsInBody t o f.index body → IsTypedBody f body → TypedThere t o
-loop_typed_in f t o None s h = absurd s
-loop_typed_in f t o (Some body) s h = typed_there_in t o f.index 1 (args_typed f.index f.args) (view_items body.items) s h.inside
 
 -- a loop of a well-formed function has no more names than labels, and is typed in some scope
 
 pub few_fresh : (f : Func) → IsWellFormed f → (t : ℕ) (o : Operation) → StandsAt f t o → FewNames o
 few_fresh f w t o s = names_few_of f t o f.body s (well_formed f w).0
 
-pub loop_typed : (f : Func) → IsWellFormed f → (t : ℕ) (o : Operation) → StandsAt f t o → TypedThere t o
-loop_typed f w t o s = loop_typed_in f t o f.body s (well_formed f w).0
+pub loop_typed : (f : Func) → IsWellFormed f → (t : ℕ) (o : Operation) → StandsAt f t o → ScopedThere t AnyScope o
+loop_typed f w t o s = scope_and_stands f t AnyScope o (any_scope f t) w s
 
 -- labels before the loop stay, and so do those behind its item
 pub record KeepsOthers (g : ℕ → ℕ) (t : ℕ) : Type 0 where

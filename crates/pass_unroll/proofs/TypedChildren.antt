@@ -12,9 +12,9 @@ use Rattle.pass_copy.specs.Renamed.{names_of}
 use Rattle.pass_copy.specs.Renaming.{renamed}
 use Rattle.pass_copy.specs.Replaced.{op_labels}
 use Rattle.pass_copy.specs.Scopes.{AnyScope}
-use Rattle.pass_copy.proofs.LoopScopes.{any_scope}
+use Rattle.pass_copy.proofs.LoopScopes.{ScopedThere, any_scope}
 use Rattle.pass_copy.proofs.ChildLabels.{child_labels_fit}
-use Rattle.pass_copy.proofs.OldNames.{TypedThere, packed_ops, few_names}
+use Rattle.pass_copy.proofs.OldNames.{packed_ops, few_names}
 use Rattle.pass_copy.proofs.ItemPlaces.{in_item}
 use Rattle.pass_copy.proofs.TypedChildren.{are_fresh, few_labels, few_fresh, loop_typed, child_breaks}
 use Rattle.pass_unroll.specs.Children.{peel_spans, peeled, IsPeeled, full_spans, unrolled_full, IsUnrolledFull, unroll_spans, unrolled, IsUnrolled}
@@ -28,11 +28,11 @@ use Rattle.pass_unroll.proofs.TypedLoops.{unroll_others, unroll_types}
 use Rattle.pass_unroll.proofs.TypedFull.{full_labels, ends_count, full_others, full_types}
 
 -- the body of a loop that is typed somewhere has no more names than labels
-body_names : (t : ℕ) (o : ForLoop) → TypedThere t (operation_of o) → names_of o.body ≤ labels_of o.body
+body_names : (t : ℕ) (o : ForLoop) → ScopedThere t AnyScope (operation_of o) → names_of o.body ≤ labels_of o.body
 body_names t o h = few_names o.body (packed_ops _ _ o.body h.regions.0)
 
 -- its lists have as many elements as it has results
-lists_agree : (t : ℕ) (o : ForLoop) → TypedThere t (operation_of o) → (length o.inits ≡ length o.results) × (length o.ends ≡ length o.results)
+lists_agree : (t : ℕ) (o : ForLoop) → ScopedThere t AnyScope (operation_of o) → (length o.inits ≡ length o.results) × (length o.ends ≡ length o.results)
 lists_agree t o h =
     let loop = for_from h.scope t o.packs o.results o.lower o.upper o.step o.iv o.args o.inits o.body o.ends h.op h.regions in
     let n = lengths h.scope t o.packs o.results o.lower o.upper o.step o.iv o.args o.inits o.body o.ends loop in
