@@ -1,20 +1,18 @@
 -- How many labels stand for a loop.
-use Rattle.std.proofs.Common.{◌≡◌, ℕ, zero, suc, ◌+◌, ◌*◌, ◌-◌, ◌==◌, ◌≤◌, true, false, List, length, ap, ◌∙◌, sym, arith}
+use Rattle.std.proofs.Common.{◌≡◌, ℕ, zero, suc, ◌+◌, ◌*◌, ◌-◌, ◌==◌, true, false, List, length, ap, arith}
 use Rattle.arith_word.specs.declared.label.Label.{Label}
 use Rattle.mlir_ir.specs.Operations.{labels_of, joined}
-use Rattle.pass_copy.specs.Built.{label, labels_from}
+use Rattle.pass_copy.specs.Built.{label}
 use Rattle.pass_copy.specs.Renamed.{keep, anew, relabels, rename_ops, names_of}
 use Rattle.pass_copy.specs.Renaming.{renamed}
 use Rattle.pass_copy.specs.Replaced.{op_labels}
 use Rattle.pass_copy.proofs.JoinedOps.{joined_labels}
-use Rattle.pass_unroll.specs.Children.{main_first, main_body, main_and_rest, main_names, inner_args, in_body, rest_count, unrolled}
+use Rattle.pass_unroll.specs.Children.{main_first, main_body, main_names, inner_args, in_body, rest_count, unrolled}
 use Rattle.pass_unroll.specs.Copies.{ForLoop, operation_of, copy, copy_spans, copy_ends, more_copies}
 use Rattle.pass_unroll.specs.declared.plan.Plan.{Plan}
+use Rattle.pass_unroll.proofs.MainLoop.{suc_times}
 use Rattle.pass_unroll.proofs.RenamedCounts.{args_length, copied_labels}
 use Rattle.pass_unroll.proofs.UnrolledLoops.{alone, both}
-
-suc_times : (n x : ℕ) → x + n * x ≡ suc n * x
-suc_times n x = omega arith
 
 more_labels : (fresh : ℕ → List ℕ) (t : ℕ) (o : ForLoop) (step : ℕ) (variable : Label) (n j k at : ℕ) (args : List Label)
     → labels_of (more_copies fresh t o step variable n j k at args) ≡ n * (2 + labels_of o.body)

@@ -1,5 +1,5 @@
 -- The child of a function is made where the item of the loop has room for what stands for it, and there is none else.
-use Rattle.std.proofs.Common.{◌≡◌, ℕ, ◌+◌, ◌≤◌, Bool, true, false, List, [], ◌∷◌, ap, ◌∙◌, sym, arith}
+use Rattle.std.proofs.Common.{◌≡◌, ℕ, ◌+◌, Bool, true, false, List, [], ap, ◌∙◌, sym, arith}
 use Rattle.std.proofs.lemmas.Bool.{leb-true, leb-false}
 use Rattle.std.specs.Prelude.{nat_le}
 use Rattle.mlir_ir.specs.Check.{IsWellFormed}

@@ -13,7 +13,7 @@ use Rattle.pass_copy.specs.Built.{label, labels_from}
 use Rattle.pass_unroll.specs.declared.plan.Plan.{Plan}
 use Rattle.pass_unroll.proofs.RenamedCounts.{copied_labels, copied_names}
 
-suc_times : (n x : ℕ) → x + n * x ≡ suc n * x
+pub suc_times : (n x : ℕ) → x + n * x ≡ suc n * x
 suc_times n x = omega arith
 
 pub more_names : (fresh : ℕ → List ℕ) (t : ℕ) (o : ForLoop) (step : ℕ) (variable : Label) (n j k at : ℕ) (args : List Label)

@@ -21,12 +21,10 @@ use crate::plan::Plan;
 use crate::source::{Source, source_at};
 use crate::unrolled::{By, push_unrolled};
 use arith_word::Label;
+use mlir_ir::limits::LABEL_LIMIT;
 use mlir_ir::{Func, Kind};
 use pass_copy::{Names, Out, found_for, item_labels, replace};
 use std::alloc::{AllocError, Global};
-
-/// The most labels of an item.
-const LABEL_LIMIT: u128 = 16383;
 
 /// The loop with that label.
 fn found_source(f: &Func, target: Label) -> Result<Source<'_>, AllocError>
@@ -52,7 +50,7 @@ fn has_room(f: &Func, source: &Source, labels: u64) -> Result<bool, AllocError>
         (label_limit + op_labels (operation_of (loop_of source.now)))) }
 {
     let now = item_labels(f, source.start)?;
-    let room = LABEL_LIMIT + u128::from(loop_labels(source));
+    let room = u128::from(LABEL_LIMIT) + u128::from(loop_labels(source));
     Ok(u128::from(now) + u128::from(labels) <= room)
 }
 

@@ -1,4 +1,4 @@
-use Rattle.std.proofs.Common.{refl, subst}
+use Rattle.std.proofs.Common.{refl}
 use Rattle.pass_unroll.specs.Copies.{operation_of}
 use Rattle.pass_unroll.proofs.calls.found_source.Goals as goal
 

@@ -1,6 +1,5 @@
-use Rattle.std.proofs.Common.{◌≡◌, ◌+◌, ◌-◌, ◌*◌, ◌%◌, ◌≤◌, ◌∙◌, sym, arith}
+use Rattle.std.proofs.Common.{◌+◌, ◌*◌, ◌%◌, ◌∙◌, sym}
 use Rattle.std.proofs.lemmas.Bool.{eq-eqb, ne_eqb}
-use Rattle.mlir_ir.specs.Operations.{labels_of}
 use Rattle.pass_unroll.specs.Built.{loop_of}
 use Rattle.pass_unroll.proofs.LoopCounts.{alone_labels, both_labels}
 use Rattle.pass_unroll.proofs.counts.unrolled_labels.Goals as goal
