@@ -1,5 +1,5 @@
-//! Loops that are peeled and unrolled: the child of a function, that it means what its parent does, and
-//! the operations that stand for the loop.
+//! Loops that are peeled and unrolled: the child of a function, that it means what its parent does, the
+//! operations that stand for the loop, and the calls that make the child.
 #![tactic(auto)]
 
 mod calls;
