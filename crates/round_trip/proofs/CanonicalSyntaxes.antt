@@ -35,7 +35,7 @@ only_syntax fs s sound is =
       tree = one_tree (map terminal_of tokens) (put s.root none) (trees 0 (module_piece fs)) other (module_tree fs sound);
     }
 
-is_syntax : (fs : List Func) (s : Syntax) → SoundModule fs → IsCanonicalSyntax fs s → IsSyntaxOf (module_text fs) s
+pub is_syntax : (fs : List Func) (s : Syntax) → SoundModule fs → IsCanonicalSyntax fs s → IsSyntaxOf (module_text fs) s
 is_syntax fs s sound is =
     let tokens = placed 0 (module_piece fs) in
     let lexed : AreTokens (module_text fs) s.tokens = subst (λ (ts : List Token). AreTokens (module_text fs) ts) (sym is.tokens) (module_tokens fs sound) in

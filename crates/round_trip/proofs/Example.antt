@@ -10,7 +10,8 @@ use Rattle.mlir_ir.specs.Values.{func_values, type_at}
 use Rattle.mlir_ir.specs.Check.{IsWellFormed, row_breaks}
 use Rattle.mlir_ir.specs.Calls.{Called, func_calls, FitsCallee, DoCallsFit}
 use Rattle.mlir_ir.specs.Values.{Value}
-use Rattle.round_trip.specs.Flat.{flat_label}
+use Rattle.round_trip.specs.Flat.{flat, flat_label}
+use Rattle.round_trip.specs.KeepsLimits.{KeepsLimits}
 use Rattle.round_trip.specs.Readable.{ReadableModule}
 use Rattle.round_trip.specs.Widths.{IsPrintable}
 
@@ -73,17 +74,24 @@ small_readable =
               ((omega arith, omega arith), tt),
               (
                 ((omega arith, omega arith), tt),
-                (record { value = c; found = refl; place = omega arith; alone = λ e. refl; names = refl }, tt),
+                (record { value = c; found = refl; place = omega arith; alone = λ e. refl; names = refl; seen = c; sees = refl; same = refl }, tt),
                 refl,
               ),
               tt,
+              (refl, refl),
             ),
+            (refl, refl),
           ),
-          (record { value = d; found = refl; place = omega arith; alone = λ e. refl; names = refl }, tt),
+          (record { value = d; found = refl; place = omega arith; alone = λ e. refl; names = refl; seen = record d { label = 32768 }; sees = refl; same = refl }, tt),
+          refl,
+          (refl, tt),
         ),
       ),
       tt,
     )
+
+pub small_limits : KeepsLimits (flat (small ∷ []))
+small_limits = record { funcs = omega arith; ops = omega arith; items = (omega arith, tt) }
 
 -- its returned value has another label there
 pub small_moves : flat_label small.index small.body 16385 ≡ 32768

@@ -1,5 +1,5 @@
 -- The results of an operation are found in scope by their names and places, and have other labels in the flat module.
-use Rattle.std.proofs.Common.{◌≡◌, ℕ, ◌+◌, ◌-◌, ◌^◌, ◌<◌, ◌≤◌, ◌&&◌, ◌||◌, not, Bool, true, false, List, [], ◌∷◌, ◌++◌, refl, ap, ◌∙◌, sym, map, length, take, drop, nat_lt, nat_le, arith, length-drop}
+use Rattle.std.proofs.Common.{◌≡◌, ℕ, ◌+◌, ◌-◌, ◌^◌, ◌<◌, ◌≤◌, ◌&&◌, not, true, false, List, [], ◌∷◌, ◌++◌, refl, ap, ◌∙◌, sym, map, length, take, drop, nat_lt, nat_le, arith, length-drop}
 use Rattle.std.proofs.lemmas.Bool.Decides.{nat_tests}
 use Rattle.std.specs.List.{list_any}
 use Rattle.std.specs.Str.{bytes_eq}
@@ -14,7 +14,7 @@ use Rattle.round_trip.specs.Sound.{Each}
 use Rattle.round_trip.proofs.SoundScopes.{Found, each_append, each_parts}
 use Rattle.round_trip.proofs.LabelOrder.{take_few}
 use Rattle.round_trip.proofs.HeldScopes.{Held, held_both, pack_held, turn_bytes, moved_value, not_held}
-use Rattle.round_trip.proofs.Tests.{and_parts}
+use Rattle.round_trip.proofs.Tests.{and_parts, or_false}
 
 -- what holds of the names of packs holds of those of their values
 
@@ -22,7 +22,7 @@ pack_named : (Q : List ℕ → Type 0) (at : ℕ) (pack : Pack) (place : ℕ) (t
 pack_named Q at pack place [] h = tt
 pack_named Q at pack place (ty ∷ tys) h = (h, pack_named Q (at + 1) pack (place + 1) tys h)
 
-results_named : (Q : List ℕ → Type 0) (at : ℕ) (packs : List Pack) (tys : List IrType) → Each (λ (pack : Pack). Q pack.name) packs → Each (λ (v : Value). Q v.name) (result_values at packs tys)
+pub results_named : (Q : List ℕ → Type 0) (at : ℕ) (packs : List Pack) (tys : List IrType) → Each (λ (pack : Pack). Q pack.name) packs → Each (λ (v : Value). Q v.name) (result_values at packs tys)
 results_named Q at [] tys h = tt
 results_named Q at (pack ∷ packs) tys h =
     each_append (λ (v : Value). Q v.name) (pack_values at pack 0 (take pack.count tys)) (result_values (at + pack.count) packs (drop pack.count tys)) (pack_named Q at pack 0 (take pack.count tys) h.0)
@@ -31,10 +31,6 @@ results_named Q at (pack ∷ packs) tys h =
 no_name : (at : ℕ) (pack : Pack) (place : ℕ) (tys : List IrType) (name : List ℕ) → bytes_eq pack.name name ≡ false → has_name (pack_values at pack place tys) name ≡ false
 no_name at pack place [] name h = refl
 no_name at pack place (ty ∷ tys) name h = rw h (no_name (at + 1) pack (place + 1) tys name h)
-
-or_false : (a b : Bool) → (a || b) ≡ false → (a ≡ false) × (b ≡ false)
-or_false true b h = cc
-or_false false b h = (refl, h)
 
 others_differ : (at : ℕ) (pack : Pack) (tys : List IrType) (packs : List Pack) → list_any (λ (other : Pack). bytes_eq other.name pack.name) packs ≡ false → Each (λ (other : Pack). has_name (pack_values at pack 0 tys) other.name ≡ false) packs
 others_differ at pack tys [] h = tt

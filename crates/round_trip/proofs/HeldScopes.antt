@@ -19,7 +19,7 @@ use Rattle.mlir_ir.specs.declared.types.Pack.{Pack}
 use Rattle.round_trip.specs.Readable.{Reading, ReadsLabel, ReadsLabels}
 use Rattle.round_trip.specs.Sound.{Each}
 use Rattle.round_trip.proofs.SoundScopes.{Found, none_append, none_at, each_append}
-use Rattle.round_trip.proofs.Tests.{and_parts, same_or}
+use Rattle.round_trip.proofs.Tests.{and_parts, same_or, or_false}
 
 abbrev as_use : Value → Use
 as_use v = record { at = 0; name = v.name; pick = v.place }
@@ -67,11 +67,7 @@ find_right : (p : Value → Bool) (xs ys : List Value) → find p xs ≡ None �
 find_right p [] ys e = refl
 find_right p (x ∷ xs) ys e = right_of (p x) x (find p xs) (find p (xs ++ ys)) (find p ys) (find_right p xs ys) e
 
-or_false : (a b : Bool) → (a || b) ≡ false → (a ≡ false) × (b ≡ false)
-or_false true b h = cc
-or_false false b h = (refl, h)
-
-none_named : (scope : List Value) (u : Use) → has_name scope u.name ≡ false → find (is_of u) scope ≡ None
+pub none_named : (scope : List Value) (u : Use) → has_name scope u.name ≡ false → find (is_of u) scope ≡ None
 none_named [] u h = refl
 none_named (v ∷ vs) u h = let b = or_false (bytes_eq v.name u.name) (has_name vs u.name) h in rw b.0 (none_named vs u b.1)
 
@@ -98,7 +94,7 @@ moved_of : (other : ℕ → ℕ) (c : Bool) (v : Value) (o q : Option Value) →
 moved_of other true v o q e = refl
 moved_of other false v o q e = e
 
-find_moved : (other : ℕ → ℕ) (u : Use) (scope : List Value) → find (is_of u) (map (moved_value other) scope) ≡ option_map (moved_value other) (find (is_of u) scope)
+pub find_moved : (other : ℕ → ℕ) (u : Use) (scope : List Value) → find (is_of u) (map (moved_value other) scope) ≡ option_map (moved_value other) (find (is_of u) scope)
 find_moved other u [] = refl
 find_moved other u (v ∷ vs) = moved_of other (is_of u v) v (find (is_of u) (map (moved_value other) vs)) (find (is_of u) vs) (find_moved other u vs)
 
@@ -113,6 +109,9 @@ label_reads r scope (v ∷ vs) l h e = elim (same_or v.label l.0) [
     names =
         ap (λ (o : Option Value). record { 0 = option_map_or (λ (w : Value). w.label) o 0 }) (find_moved r.other (as_use v) scope ∙ ap (option_map (moved_value r.other)) h.0.own)
         ∙ ap (λ (x : ℕ). record { 0 = r.other x }) q;
+    seen = moved_value r.other v;
+    sees = find_moved r.other (as_use v) scope ∙ ap (option_map (moved_value r.other)) h.0.own;
+    same = refl;
   }
   | inr ne ↦ label_reads r scope vs l h.1 (rw (ne_eqb v.label l.0 ne) at e)
 ]
@@ -133,7 +132,7 @@ pub not_held : (b : Bool) → not b ≡ true → b ≡ false
 not_held true h = cc
 not_held false h = refl
 
-free_of : (a b : Bool) → ((a && not b) || false) ≡ true → b ≡ false
+pub free_of : (a b : Bool) → ((a && not b) || false) ≡ true → b ≡ false
 free_of true true e = cc
 free_of true false e = refl
 free_of false b e = cc

@@ -30,40 +30,40 @@ use Rattle.round_trip.proofs.ReadUses.{label_read, value_parts}
 use Rattle.round_trip.proofs.ReadIfs.{braces, gives_read, BlockRead}
 
 -- the phrase of an `scf.for`, by its parts
-abbrev for_phrase : (naming : Naming) (k a1 a2 i1 : ℕ) (u1 : Phrase) (a3 i2 : ℕ) (u2 : Phrase) (a4 i3 : ℕ) (u3 : Phrase) (c1 c2 y : ℕ) (name : List ℕ) (ty : IrType) (args : List Arg) (inits : List Label) (results : List IrType) (parts : Phrase) → Phrase
+abbrev pub for_phrase : (naming : Naming) (k a1 a2 i1 : ℕ) (u1 : Phrase) (a3 i2 : ℕ) (u2 : Phrase) (a4 i3 : ℕ) (u3 : Phrase) (c1 c2 y : ℕ) (name : List ℕ) (ty : IrType) (args : List Arg) (inits : List Label) (results : List IrType) (parts : Phrase) → Phrase
 for_phrase naming k a1 a2 i1 u1 a3 i2 u2 a4 i3 u3 c1 c2 y name ty args inits results parts =
     token k ts.For (codes "scf.for") (token a1 ts.Value (codes "%" ++ name) (token a2 ts.Equals (codes "=") (line forms.Use i1 u1 (token a3 ts.To (codes "to") (line forms.Use i2 u2 (token a4 ts.Step (codes "step") (line forms.Use i3 u3
     (said c1 (carried_piece naming args inits results) (said c2 (counter_piece ty) (line forms.Region y parts done))))))))))
 
 -- what is behind the loop's bounds
-abbrev behind_bounds : Naming → ℕ → ℕ → ℕ → IrType → List Arg → List Label → List IrType → Phrase → Phrase
+abbrev pub behind_bounds : Naming → ℕ → ℕ → ℕ → IrType → List Arg → List Label → List IrType → Phrase → Phrase
 behind_bounds naming c1 c2 y ty args inits results parts = said c1 (carried_piece naming args inits results) (said c2 (counter_piece ty) (line forms.Region y parts done))
 
-for_region : (naming : Naming) (c1 c2 y : ℕ) (ty : IrType) (args : List Arg) (inits : List Label) (results : List IrType) (parts : Phrase) → region (behind_bounds naming c1 c2 y ty args inits results parts) ≡ block parts
+pub for_region : (naming : Naming) (c1 c2 y : ℕ) (ty : IrType) (args : List Arg) (inits : List Label) (results : List IrType) (parts : Phrase) → region (behind_bounds naming c1 c2 y ty args inits results parts) ≡ block parts
 for_region naming c1 c2 y (Int width) [] inits results parts = refl
 for_region naming c1 c2 y Index [] inits results parts = refl
 for_region naming c1 c2 y (Int width) (arg ∷ args) inits results parts = refl
 for_region naming c1 c2 y Index (arg ∷ args) inits results parts = refl
 
-for_parts : (naming : Naming) (c1 c2 y : ℕ) (ty : IrType) (args : List Arg) (inits : List Label) (results : List IrType) (parts : Phrase) → inside forms.Region (behind_bounds naming c1 c2 y ty args inits results parts) ≡ parts
+pub for_parts : (naming : Naming) (c1 c2 y : ℕ) (ty : IrType) (args : List Arg) (inits : List Label) (results : List IrType) (parts : Phrase) → inside forms.Region (behind_bounds naming c1 c2 y ty args inits results parts) ≡ parts
 for_parts naming c1 c2 y (Int width) [] inits results parts = refl
 for_parts naming c1 c2 y Index [] inits results parts = refl
 for_parts naming c1 c2 y (Int width) (arg ∷ args) inits results parts = refl
 for_parts naming c1 c2 y Index (arg ∷ args) inits results parts = refl
 
-for_variable : (naming : Naming) (c1 c2 y : ℕ) (ty : IrType) (args : List Arg) (inits : List Label) (results : List IrType) (parts : Phrase) → IsType ty → variable_type (types_in (behind_bounds naming c1 c2 y ty args inits results parts)) ≡ ty
+pub for_variable : (naming : Naming) (c1 c2 y : ℕ) (ty : IrType) (args : List Arg) (inits : List Label) (results : List IrType) (parts : Phrase) → IsType ty → variable_type (types_in (behind_bounds naming c1 c2 y ty args inits results parts)) ≡ ty
 for_variable naming c1 c2 y (Int width) [] inits results parts is = type_is _ 0 (Int width) is
 for_variable naming c1 c2 y Index [] inits results parts is = refl
 for_variable naming c1 c2 y (Int width) (arg ∷ args) inits results parts is = type_is _ 0 (Int width) is
 for_variable naming c1 c2 y Index (arg ∷ args) inits results parts is = refl
 
-for_results : (naming : Naming) (c1 c2 y : ℕ) (ty : IrType) (args : List Arg) (inits : List Label) (results : List IrType) (parts : Phrase) → Each IsType results → arg_types args ≡ results → tys (result_types (behind_bounds naming c1 c2 y ty args inits results parts)) ≡ results
+pub for_results : (naming : Naming) (c1 c2 y : ℕ) (ty : IrType) (args : List Arg) (inits : List Label) (results : List IrType) (parts : Phrase) → Each IsType results → arg_types args ≡ results → tys (result_types (behind_bounds naming c1 c2 y ty args inits results parts)) ≡ results
 for_results naming c1 c2 y (Int width) [] inits results parts is e = e
 for_results naming c1 c2 y Index [] inits results parts is e = e
 for_results naming c1 c2 y (Int width) (arg ∷ args) inits results parts is e = results_list_read _ results is
 for_results naming c1 c2 y Index (arg ∷ args) inits results parts is e = results_list_read _ results is
 
-for_inits : (r : Reading) (scope : List Value) (c1 c2 y : ℕ) (ty : IrType) (args : List Arg) (inits : List Label) (results : List IrType) (parts : Phrase) → length args ≡ length inits → ReadsLabels r scope inits
+pub for_inits : (r : Reading) (scope : List Value) (c1 c2 y : ℕ) (ty : IrType) (args : List Arg) (inits : List Label) (results : List IrType) (parts : Phrase) → length args ≡ length inits → ReadsLabels r scope inits
     → InitsRead scope (other_label r.other) args inits (inits_of (behind_bounds r.naming c1 c2 y ty args inits results parts))
 for_inits r scope c1 c2 y (Int width) [] [] results parts e is = (refl, refl)
 for_inits r scope c1 c2 y Index [] [] results parts e is = (refl, refl)
@@ -79,7 +79,7 @@ for_of funcs scope at l u s name ty args inits body parts =
     let ops = ops_of funcs body inner (at + 2 + length args) in
     plain.For l u s iv args inits ops (labels (inner ++ values_of (at + 2 + length args) ops) (listed_uses (inside forms.Ends parts)))
 
-arg_each : (args : List Arg) (results : List IrType) → HasTypes args → arg_types args ≡ results → Each IsType results
+pub arg_each : (args : List Arg) (results : List IrType) → HasTypes args → arg_types args ≡ results → Each IsType results
 arg_each args results is e = subst (λ (xs : List IrType). Each IsType xs) e (go args is)
   where
     go : (args : List Arg) → HasTypes args → Each IsType (arg_types args)

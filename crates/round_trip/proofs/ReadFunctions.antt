@@ -30,12 +30,12 @@ use Rattle.round_trip.proofs.ReadLists.{results_list_read, bare_result_read, joi
 
 -- results are passed over, or read
 
-arrow_inside_params : (d : ℕ) (results : List IrType) (q : Phrase) → inside forms.Params (said d (arrow_piece results) q) ≡ inside forms.Params q
+pub arrow_inside_params : (d : ℕ) (results : List IrType) (q : Phrase) → inside forms.Params (said d (arrow_piece results) q) ≡ inside forms.Params q
 arrow_inside_params d [] q = refl
 arrow_inside_params d (ty ∷ []) q = refl
 arrow_inside_params d (ty ∷ other ∷ more) q = refl
 
-arrow_inside_types : (d : ℕ) (results : List IrType) (q : Phrase) → inside forms.Types (said d (arrow_piece results) q) ≡ inside forms.Types q
+pub arrow_inside_types : (d : ℕ) (results : List IrType) (q : Phrase) → inside forms.Types (said d (arrow_piece results) q) ≡ inside forms.Types q
 arrow_inside_types d [] q = refl
 arrow_inside_types d (ty ∷ []) q = refl
 arrow_inside_types d (ty ∷ other ∷ more) q = refl
@@ -72,13 +72,13 @@ def_private k a s l c r d true name args results q e = refl
 def_private k a s l c r d false name [] results q e = arrow_has d results q ∙ e
 def_private k a s l c r d false name (arg ∷ args) results q e = arrow_has d results q ∙ e
 
-abbrev unnamed : List Written → List Arg
+abbrev pub unnamed : List Written → List Arg
 unnamed types = map (λ (t : Written). record { name = []; ty = t.ty }) types
 
 abbrev args_said : Phrase → List Arg
 args_said p = args_of (params_in (inside forms.Params p)) ++ unnamed (listed_types p)
 
-both_is : {A : Type 0} {xs ys us vs : List A} → xs ≡ ys → us ≡ vs → xs ++ us ≡ ys ++ vs
+pub both_is : {A : Type 0} {xs ys us vs : List A} → xs ≡ ys → us ≡ vs → xs ++ us ≡ ys ++ vs
 both_is e f = λ t. e t ++ f t
 
 pub def_args : (k a s l c r d : ℕ) (private : Bool) (name : List ℕ) (args : List Arg) (results : List IrType) (q : Phrase) → HasTypes args → inside forms.Params q ≡ done → inside forms.Types q ≡ done
@@ -109,7 +109,7 @@ decl_private k a s l c r d true name types results = refl
 decl_private k a s l c r d false name [] results = arrow_has d results done
 decl_private k a s l c r d false name (ty ∷ more) results = arrow_has d results done
 
-named_by : (ws : List Written) → unnamed ws ≡ map (λ (ty : IrType). record { name = []; ty = ty }) (tys ws)
+pub named_by : (ws : List Written) → unnamed ws ≡ map (λ (ty : IrType). record { name = []; ty = ty }) (tys ws)
 named_by [] = refl
 named_by (w ∷ ws) = ap (λ l. record { name = []; ty = w.ty } ∷ l) (named_by ws)
 
@@ -143,14 +143,14 @@ ops_inside : (naming : Naming) (ops : List Op) (rest : Phrase) (at : ℕ) → in
 ops_inside naming [] rest at = refl
 ops_inside naming (op ∷ ops) rest at = ops_inside naming ops rest _
 
-items_inside : (naming : Naming) (items : List Item) (rest : Phrase) (at : ℕ) → inside forms.Ends (said at (items_piece naming items) rest) ≡ inside forms.Ends rest
+pub items_inside : (naming : Naming) (items : List Item) (rest : Phrase) (at : ℕ) → inside forms.Ends (said at (items_piece naming items) rest) ≡ inside forms.Ends rest
 items_inside naming [] rest at = refl
 items_inside naming (item ∷ items) rest at = ops_inside naming item.ops _ at ∙ items_inside naming items rest _
 
-abbrev returning : Naming → ℕ → ℕ → ℕ → List Label → Phrase
+abbrev pub returning : Naming → ℕ → ℕ → ℕ → List Label → Phrase
 returning naming w e z ret = token w ts.Return (codes "return") (said e (ends_piece naming ret) (token z ts.RightBrace (codes "}") done))
 
-returning_none : (naming : Naming) (w e z : ℕ) (ret : List Label) → block (returning naming w e z ret) ≡ none
+pub returning_none : (naming : Naming) (w e z : ℕ) (ret : List Label) → block (returning naming w e z ret) ≡ none
 returning_none naming w e z [] = refl
 returning_none naming w e z (l ∷ ls) = refl
 

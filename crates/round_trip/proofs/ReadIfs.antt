@@ -58,7 +58,7 @@ if_both : (funcs : List (List ℕ)) (scope : List Value) (at k i : ℕ) (u : Phr
 if_both funcs scope at k i u x y z w [] parts others = refl
 if_both funcs scope at k i u x y z w (ty ∷ more) parts others = refl
 
-if_types : (k i : ℕ) (u : Phrase) (x y : ℕ) (results : List IrType) (parts q : Phrase) → Each IsType results → inside forms.Results q ≡ done
+pub if_types : (k i : ℕ) (u : Phrase) (x y : ℕ) (results : List IrType) (parts q : Phrase) → Each IsType results → inside forms.Results q ≡ done
     → tys (op_types ts.If (token k ts.If (codes "scf.if") (line forms.Use i u (said x (arrow_list_piece results) (line forms.Region y parts q))))) ≡ results
 if_types k i u x y [] parts q is e = λ j. tys (types_in (e j) ++ types_in (inside forms.Types (e j)))
 if_types k i u x y (ty ∷ more) parts q is e = results_list_read _ (ty ∷ more) is

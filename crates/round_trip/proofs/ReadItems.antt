@@ -28,7 +28,7 @@ append_nil [] = refl
 append_nil (x ∷ xs) = ap (λ l. x ∷ l) (append_nil xs)
 
 -- the phrase says these operations in turn, and then the rest
-abbrev OpsSaid : Naming → Phrase → List Op → Phrase → Type 0
+abbrev pub OpsSaid : Naming → Phrase → List Op → Phrase → Type 0
 OpsSaid naming rest [] q = q ≡ rest
 OpsSaid naming rest (op ∷ ops) q = (tok : ℕ) × (more : Phrase) × (q ≡ said tok (whole_piece 1 (packs_piece op.packs) (kind_piece naming 1 op.results op.kind)) more) × OpsSaid naming rest ops more
 
@@ -36,7 +36,7 @@ ops_said : (naming : Naming) (rest : Phrase) (ops : List Op) (tok : ℕ) (tail :
 ops_said naming rest [] tok tail more h = h
 ops_said naming rest (op ∷ ops) tok tail more h = (tok, _, refl, ops_said naming rest ops _ tail more h)
 
-items_said : (naming : Naming) (rest : Phrase) (items : List Item) (tok : ℕ) → OpsSaid naming rest (all_ops items) (said tok (items_piece naming items) rest)
+pub items_said : (naming : Naming) (rest : Phrase) (items : List Item) (tok : ℕ) → OpsSaid naming rest (all_ops items) (said tok (items_piece naming items) rest)
 items_said naming rest [] tok = refl
 items_said naming rest (item ∷ items) tok = ops_said naming rest item.ops tok _ (all_ops items) (items_said naming rest items _)
 

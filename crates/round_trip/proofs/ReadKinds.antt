@@ -99,7 +99,7 @@ constant_types r (Int width) v k is small = go _ (width == 1) refl
 
 -- calls
 
-call_types : (r : Reading) (func : ℕ) (uses : List Label) (results : List IrType) (k : ℕ) → Each IsType results → TypesSaid k (simple_piece r.naming results (Call func uses)) results
+pub call_types : (r : Reading) (func : ℕ) (uses : List Label) (results : List IrType) (k : ℕ) → Each IsType results → TypesSaid k (simple_piece r.naming results (Call func uses)) results
 call_types r func [] [] k is = refl
 call_types r func [] (ty ∷ []) k is = bare_result_read _ ty is.0
 call_types r func [] (ty ∷ other ∷ more) k is = results_list_read _ (ty ∷ other ∷ more) is

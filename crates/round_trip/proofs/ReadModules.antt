@@ -23,7 +23,7 @@ use Rattle.round_trip.specs.Readable.{ReadableBody, ReadableFuncs, ReadableModul
 use Rattle.round_trip.proofs.ReadFunctions.{func_phrase, body_parts, other_body, name_read, def_private, def_args, def_results, def_bodies, decl_private, decl_args, decl_results, decl_bodies, body_read}
 
 -- the phrase is read as that function
-record FuncRead (names : List (List ℕ)) (index : ℕ) (name : List ℕ) (expected : PlainFunc) (parts : Phrase) : Type 0 where
+pub record FuncRead (names : List (List ℕ)) (index : ℕ) (name : List ℕ) (expected : PlainFunc) (parts : Phrase) : Type 0 where
   pub func : func_of names index (record { at = 0; parts = parts }) ≡ expected
   pub name_is : func_name (record { at = 0; parts = parts }) ≡ name
 
@@ -54,11 +54,11 @@ unnamed_args : (args : List Arg) → map nameless (map (λ (arg : Arg). arg.ty) 
 unnamed_args [] = refl
 unnamed_args (arg ∷ args) = ap (λ (l : List Arg). nameless arg.ty ∷ l) (unnamed_args args)
 
-types_each : (args : List Arg) → HasTypes args → Each IsType (map (λ (arg : Arg). arg.ty) args)
+pub types_each : (args : List Arg) → HasTypes args → Each IsType (map (λ (arg : Arg). arg.ty) args)
 types_each [] is = tt
 types_each (arg ∷ args) is = (is.0, types_each args is.1)
 
-decl_read : (names : List (List ℕ)) (f : Func) (k a s l c d e : ℕ) → HasTypes f.args → Each IsType f.results
+pub decl_read : (names : List (List ℕ)) (f : Func) (k a s l c d e : ℕ) → HasTypes f.args → Each IsType f.results
     → FuncRead names f.index f.name (with_body f (map (λ (arg : Arg). nameless arg.ty) f.args) None) (func_phrase k a s l c d e f.private f.name (types_piece (map (λ (arg : Arg). arg.ty) f.args)) f.results done)
 decl_read names f k a s l c d e has is =
     let types = map (λ (arg : Arg). arg.ty) f.args in
@@ -72,11 +72,11 @@ decl_read names f k a s l c d e has is =
       name_is = name;
     }
 
-abbrev flat_of_body : Func → Option Body → PlainFunc
+abbrev pub flat_of_body : Func → Option Body → PlainFunc
 flat_of_body f body = with_body f (flat_args (option_map plain_body body) f.args) (option_map (other_body (flat_label f.index body)) body)
 
 -- the line of a function, before others
-func_said : (names : List (List ℕ)) (f : Func) (body : Option Body) (at : ℕ) (rest : Phrase) → HasTypes f.args → Each IsType f.results → ReadableBody (record { naming = naming_of names f; other = flat_label f.index body }) f body
+pub func_said : (names : List (List ℕ)) (f : Func) (body : Option Body) (at : ℕ) (rest : Phrase) → HasTypes f.args → Each IsType f.results → ReadableBody (record { naming = naming_of names f; other = flat_label f.index body }) f body
     → (w : ℕ) × (parts : Phrase) × (said at (body_piece (naming_of names f) f body) rest ≡ line forms.Func w parts rest) × FuncRead names f.index f.name (flat_of_body f body) parts
 func_said names f None at rest has is reads = (_, _, refl, decl_read names f _ _ _ _ _ _ _ has is)
 func_said names f (Some body) at rest has is reads = (_, _, refl, def_read (record { naming = naming_of names f; other = flat_label f.index (Some body) }) f body _ _ _ _ _ _ _ _ _ _ _ _ _ has is reads)

@@ -1,10 +1,9 @@
 -- The canonical text of a module stands for the flat module.
-use Rattle.std.proofs.Common.{◌≡◌, List, [], map, sym, ap, ◌∙◌}
+use Rattle.std.proofs.Common.{◌≡◌, List, map, ap, ◌∙◌}
 use Rattle.mlir_ir.specs.Canonical.{module_text}
 use Rattle.mlir_ir.specs.Phrases.{phrase_of}
 use Rattle.mlir_ir.specs.Reads.{Reads, phrase_in, plain_func}
 use Rattle.mlir_ir.specs.Resolved.{funcs_of}
-use Rattle.mlir_ir.specs.ScopeFaults.{text_breaks}
 use Rattle.mlir_ir.specs.Syntaxes.{IsSyntaxOf}
 use Rattle.mlir_ir.specs.declared.syntax.Syntax.{Syntax}
 use Rattle.mlir_ir.specs.declared.module.Module.{Module}
@@ -29,6 +28,3 @@ whole_read m s printable is = text_read m.funcs s (printable_sound m.funcs print
 
 pub readings_are : (m read : Module) → IsPrintable m.funcs → Reads (module_text m.funcs) read → map plain_func read.funcs ≡ flat m.funcs
 readings_are m read printable r = r.resolved.funcs ∙ whole_read m r.syntax printable r.parsed
-
-pub unbroken_reads : (m read : Module) (s : Syntax) → IsPrintable m.funcs → IsSyntaxOf (module_text m.funcs) s → text_breaks s.tokens (phrase_in s) ≡ [] → map plain_func read.funcs ≡ flat m.funcs → Reads (module_text m.funcs) read
-unbroken_reads m read s printable is keeps same = record { syntax = s; parsed = is; resolved = record { keeps = keeps; funcs = same ∙ sym (whole_read m s printable is) } }

@@ -42,7 +42,7 @@ opening naming k c1 x1 x2 c2 x3 x4 y b1 args inits results rest =
 
 -- lines that aren't there
 
-turn_end_lacks : (f : Form) (naming : Naming) (d4 d5 d6 : ℕ) (ends : List Label) → same_form f forms.Ends ≡ false → inside f (turn_end naming d4 d5 d6 ends) ≡ done
+pub turn_end_lacks : (f : Form) (naming : Naming) (d4 d5 d6 : ℕ) (ends : List Label) → same_form f forms.Ends ≡ false → inside f (turn_end naming d4 d5 d6 ends) ≡ done
 turn_end_lacks f naming d4 d5 d6 [] g = refl
 turn_end_lacks f naming d4 d5 d6 (l ∷ ls) g = rw g refl
 
@@ -109,7 +109,7 @@ pub opening_results : (naming : Naming) (k c1 x1 x2 c2 x3 x4 y b1 : ℕ) (args :
 opening_results naming k c1 x1 x2 c2 x3 x4 y b1 [] inits results rest is = results_list_read _ results is
 opening_results naming k c1 x1 x2 c2 x3 x4 y b1 (arg ∷ args) inits results rest is = results_list_read _ results is
 
-arg_each : (args : List Arg) → HasTypes args → Each IsType (arg_types args)
+pub arg_each : (args : List Arg) → HasTypes args → Each IsType (arg_types args)
 arg_each [] is = tt
 arg_each (arg ∷ args) is = (is.0, arg_each args is.1)
 

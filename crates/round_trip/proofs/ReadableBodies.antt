@@ -15,6 +15,9 @@ use Rattle.round_trip.proofs.HeldScopes.{Held, args_held, labels_read, moved_val
 use Rattle.round_trip.proofs.HeldResults.{results_held, packs_reads, Shifts, shifts_part, args_moved}
 use Rattle.round_trip.proofs.ReadItems.{append_nil}
 use Rattle.round_trip.proofs.ReadableParts.{Keeps, op_free, results_moved}
+use Rattle.round_trip.proofs.FreeNames.{names_moved, free_args, free_packs}
+use Rattle.round_trip.proofs.KnownTypes.{types_known}
+use Rattle.round_trip.proofs.TypeTests.{equal_lengths}
 use Rattle.std.proofs.Common.{Option, Some, None}
 use Rattle.arith_word.specs.Labels.{label_at}
 use Rattle.mlir_ir.specs.declared.types.Body.{Body}
@@ -67,7 +70,7 @@ ops_kept r func scope nest at p n e (op ∷ ops) s sh g f c h =
     let same = scope_moved r.other scope rv (result_values (to + kl) op.packs op.results) (results_moved r.other (p + kl) (to + kl) op.packs op.results q.1 moves) in
     let joins : (scope ++ rv) ++ new ≡ scope ++ (rv ++ new) = append_assoc scope rv new in
     record {
-      reads = (packs_reads op.packs (length op.results) q.1 q.2, k, subst (λ (xs : List Value). ReadableOps r func (n + 1) xs ops) same more.reads);
+      reads = (packs_reads op.packs (length op.results) q.1 q.2, k, subst (λ (xs : List Value). ReadableOps r func (n + 1) xs ops) same more.reads, (free_packs (map mv scope) scope op.packs (names_moved r.other scope) ∙ q.0, q.1));
       held = subst (λ (xs : List Value). Each (Held vs xs) xs) joins more.held;
       after = sym (ap (λ (xs : List Value). scope_after func (n + 1) xs ops) same) ∙ more.after ∙ ap (map mv) joins;
     }
@@ -78,7 +81,7 @@ ops_both r func [] ys n S h g = let e : n + 0 ≡ n = omega arith in subst (λ (
 ops_both r func (x ∷ xs) ys n S h g =
     let e : n + suc (length xs) ≡ n + 1 + length xs = omega arith in
     let S2 = S ++ result_values (label_at func n 0 + kind_labels x.kind) x.packs x.results in
-    (h.0, h.1, ops_both r func xs ys (n + 1) S2 h.2 (subst (λ (m : ℕ). ReadableOps r func m (scope_after func (n + 1) S2 xs) ys) e g))
+    (h.0, h.1, ops_both r func xs ys (n + 1) S2 h.2 (subst (λ (m : ℕ). ReadableOps r func m (scope_after func (n + 1) S2 xs) ys) e g), h.3)
 
 after_both : (func : ℕ) (xs ys : List Op) (n : ℕ) (S : List Value) → scope_after func n S (xs ++ ys) ≡ scope_after func (n + length xs) (scope_after func n S xs) ys
 after_both func [] ys n S = let e : n ≡ n + 0 = omega arith in ap (λ (m : ℕ). scope_after func m S ys) e
@@ -133,4 +136,6 @@ body_kept r f (Some body) s o few items h g v c =
     let rets = labels_read r (arg_row ++ new) body.ret k.held rules.0 in (
       subst (λ (xs : List Value). ReadableOps r f.index 1 xs (all_ops body.items)) stays k.reads,
       subst (λ (xs : List Value). ReadsLabels r xs body.ret) (sym k.after ∙ ap (λ (xs : List Value). scope_after f.index 1 xs (all_ops body.items)) stays) rets,
+      types_known r (arg_row ++ new) k.held f.results body.ret rules.0 rules.1 (equal_lengths (length body.ret) (length f.results) rules.2),
+      free_args 0 [] [] (func_begin f) f.args h [] (λ name. refl),
     )

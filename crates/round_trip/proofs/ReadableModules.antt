@@ -31,7 +31,7 @@ use Rattle.round_trip.proofs.Tests.{and_parts}
 
 -- names find their functions
 
-bytes_true : (xs ys : List ℕ) → bytes_eq xs ys ≡ true → xs ≡ ys
+pub bytes_true : (xs ys : List ℕ) → bytes_eq xs ys ≡ true → xs ≡ ys
 bytes_true [] [] h = refl
 bytes_true [] (y ∷ ys) h = cc
 bytes_true (x ∷ xs) [] h = cc
@@ -40,11 +40,11 @@ bytes_true (x ∷ xs) (y ∷ ys) h =
     let e : x ≡ y = grind (arith, nat_tests) in
     λ t. e t ∷ bytes_true xs ys p.1 t
 
-never : (b : Bool) → (b ≡ true → ⊥) → b ≡ false
+pub never : (b : Bool) → (b ≡ true → ⊥) → b ≡ false
 never true h = absurd (h refl)
 never false h = refl
 
-func_at : (fs : List Func) (k : ℕ) → k < length fs → (g : Func) × (slice_get fs k ≡ Some g) × (slice_index_or (map (λ (f : Func). f.name) fs) k [] ≡ g.name)
+pub func_at : (fs : List Func) (k : ℕ) → k < length fs → (g : Func) × (slice_get fs k ≡ Some g) × (slice_index_or (map (λ (f : Func). f.name) fs) k [] ≡ g.name)
 func_at [] k l = absurd (omega arith)
 func_at (f ∷ fs) zero l = (f, refl, refl)
 func_at (f ∷ fs) (suc k) l = func_at fs k (omega arith)

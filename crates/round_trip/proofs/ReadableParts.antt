@@ -1,5 +1,5 @@
 -- What the rules say of operations that are read back: types, packs and calls.
-use Rattle.std.proofs.Common.{◌≡◌, ℕ, ◌+◌, ◌<◌, ◌==◌, ◌&&◌, true, List, [], ◌∷◌, ◌++◌, length, refl, ap, ◌∙◌, subst, arith, map, take, drop, suc, ◌-◌, ◌^◌, ◌≤◌, nat_le, nat_lt, slice_index_or, length-drop}
+use Rattle.std.proofs.Common.{◌≡◌, ℕ, ◌+◌, ◌<◌, ◌&&◌, true, List, [], ◌∷◌, ◌++◌, length, refl, ap, ◌∙◌, subst, arith, map, take, drop, ◌-◌, ◌^◌, ◌≤◌, nat_le, nat_lt, slice_index_or, length-drop}
 use Rattle.std.proofs.lemmas.Bool.Decides.{nat_tests}
 use Rattle.std.specs.List.{list_all}
 use Rattle.arith_word.specs.declared.label.Label.{Label}
@@ -10,23 +10,23 @@ use Rattle.mlir_ir.specs.declared.rules.Rules.{Rules}
 use Rattle.mlir_ir.specs.declared.types.Arg.{Arg}
 use Rattle.mlir_ir.specs.declared.types.Pack.{Pack}
 use Rattle.mlir_ir.specs.declared.types.IrType.{IrType}
-use Rattle.mlir_ir.specs.declared.types.IrType.TheVariants.{Int, Index}
 use Rattle.mlir_ir.specs.declared.types.Region.{Row_of-Op}
 use Rattle.mlir_ir.specs.declared.types.Kind.{Kind}
 use Rattle.mlir_ir.specs.Values.{Value, result_values}
-use Rattle.mlir_ir.specs.Rules.{is_in_scope, arg_types, op_rules, same_type, same_types, gives_number, are_free, packs_hold, is_kind_typed, is_kind_counted, is_kind_sized, is_short}
+use Rattle.mlir_ir.specs.Rules.{is_in_scope, have_types, op_rules, gives_number, are_free, packs_hold, is_kind_typed, is_kind_counted, is_kind_sized, is_short}
 use Rattle.mlir_ir.specs.Limits.{result_limit, op_limit}
 use Rattle.mlir_ir.specs.Check.{breaks_at, row_results}
 use Rattle.mlir_ir.specs.Calls.{Called}
 use Rattle.mlir_ir.specs.Resolved.{place_named}
 use Rattle.mlir_ir.specs.Values.{pack_values}
-use Rattle.round_trip.specs.Readable.{Reading, ReadsLabels, HasTypes, IsLiteral, ReadableRow}
+use Rattle.round_trip.specs.Readable.{Reading, ReadsLabels, HasTypes, IsLiteral, ReadableRow, TypesAre}
 use Rattle.round_trip.specs.Sound.{Each, IsArg, OneType}
 use Rattle.round_trip.proofs.Tests.{and_parts}
 use Rattle.round_trip.proofs.SoundScopes.{none_append, none_at}
 use Rattle.round_trip.proofs.LabelOrder.{take_few}
 use Rattle.round_trip.proofs.HeldScopes.{Held, labels_read, moved_value}
 use Rattle.round_trip.proofs.HeldResults.{Shifts, shifts_part, first_shift}
+use Rattle.round_trip.proofs.KnownTypes.{types_known}
 
 -- calls name their callees
 abbrev pub Keeps : Reading → Called → Type 0
@@ -49,22 +49,6 @@ op_free scope nest at last packs results kind h =
 
 -- types
 
-pub same_type_is : (a b : IrType) → same_type a b ≡ true → a ≡ b
-same_type_is (Int a) (Int b) h = let e : a ≡ b = grind (arith, nat_tests) in ap Int e
-same_type_is (Int a) Index h = cc
-same_type_is Index (Int b) h = cc
-same_type_is Index Index h = refl
-
-pub same_types_are : (xs ys : List IrType) → length xs ≡ length ys → same_types xs ys ≡ true → xs ≡ ys
-same_types_are [] [] e h = refl
-same_types_are [] (y ∷ ys) e h = absurd (omega arith)
-same_types_are (x ∷ xs) [] e h = absurd (omega arith)
-same_types_are (x ∷ xs) (y ∷ ys) e h =
-    let p = and_parts (same_type x y) (same_types xs ys) h in λ t. same_type_is x y p.0 t ∷ same_types_are xs ys (omega (arith, e)) p.1 t
-
-pub equal_lengths : (a b : ℕ) → (a == b) ≡ true → a ≡ b
-equal_lengths a b h = grind (arith, nat_tests)
-
 pub literal_of : (v : ℕ) (results : List IrType) → OneType results → gives_number v results ≡ true → IsLiteral v results
 literal_of v [] is h = is
 literal_of v (ty ∷ []) is h = (is, grind (arith, nat_tests, h))
@@ -73,10 +57,6 @@ literal_of v (ty ∷ other ∷ more) is h = is
 pub args_typed : (args : List Arg) → Each IsArg args → HasTypes args
 args_typed [] is = tt
 args_typed (arg ∷ args) is = (is.0.1, args_typed args is.1)
-
-pub types_length : (args : List Arg) → length (arg_types args) ≡ length args
-types_length [] = refl
-types_length (arg ∷ args) = ap suc (types_length args)
 
 -- values that move
 
@@ -112,12 +92,15 @@ pub record RowKept (r : Reading) (scope : List Value) (p to : ℕ) {m : _} (row 
   pub moved : map (moved_value r.other) (row_results p row) ≡ row_results to row
 
 -- a region: its row, and what its terminator gives on
-pub arm_kept : (r : Reading) (scope : List Value) (at : Position) (p to : ℕ) → at.next ≡ p → (n : _) (row : Row_of-Op n) (ends : List Label) (xs : List Shape) (last : ℕ) (rules : Rules) → (xs ++ breaks_at last rules) ≡ []
-    → (rules.in_scope ≡ true → list_all (is_in_scope (scope ++ row_results at.next row)) ends ≡ true) → (xs ≡ [] → RowKept r scope p to row)
-    → ReadableRow r (map (moved_value r.other) scope) to row × ReadsLabels r (map (moved_value r.other) scope ++ row_results to row) ends
-arm_kept r scope at p to e n row ends xs last rules h c ih =
+pub arm_kept : (r : Reading) (scope : List Value) (at : Position) (p to : ℕ) → at.next ≡ p → (n : _) (row : Row_of-Op n) (ends : List Label) (wanted : List IrType) (xs : List Shape) (last : ℕ) (rules : Rules) → (xs ++ breaks_at last rules) ≡ []
+    → (rules.in_scope ≡ true → list_all (is_in_scope (scope ++ row_results at.next row)) ends ≡ true) → (rules.typed ≡ true → have_types (scope ++ row_results at.next row) wanted ends ≡ true) → (rules.counted ≡ true → length ends ≡ length wanted)
+    → (xs ≡ [] → RowKept r scope p to row)
+    → ReadableRow r (map (moved_value r.other) scope) to row × ReadsLabels r (map (moved_value r.other) scope ++ row_results to row) ends × TypesAre r wanted ends
+arm_kept r scope at p to e n row ends wanted xs last rules h c t n2 ih =
     let b = none_append xs (breaks_at last rules) h in
     let s = ih b.0 in
-    let sees = subst (λ (x : ℕ). list_all (is_in_scope (scope ++ row_results x row)) ends ≡ true) e (c (none_at last rules b.1).0) in
+    let kept = none_at last rules b.1 in
+    let sees = subst (λ (x : ℕ). list_all (is_in_scope (scope ++ row_results x row)) ends ≡ true) e (c kept.0) in
+    let typed = subst (λ (x : ℕ). have_types (scope ++ row_results x row) wanted ends ≡ true) e (t kept.1) in
     let same : map (moved_value r.other) (scope ++ row_results p row) ≡ map (moved_value r.other) scope ++ row_results to row = map_both (moved_value r.other) scope (row_results p row) ∙ (λ t. map (moved_value r.other) scope ++ s.moved t) in
-    (s.reads, subst (λ (xs : List Value). ReadsLabels r xs ends) same (labels_read r (scope ++ row_results p row) ends s.held sees))
+    (s.reads, subst (λ (xs : List Value). ReadsLabels r xs ends) same (labels_read r (scope ++ row_results p row) ends s.held sees), types_known r (scope ++ row_results p row) s.held wanted ends sees typed (n2 kept.2))

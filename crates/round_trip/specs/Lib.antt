@@ -4,6 +4,7 @@ pub mod CanonicalPieces
 pub mod PiecePhrases
 pub mod CanonicalSyntaxes
 pub mod Flat
+pub mod KeepsLimits
 pub mod LabelOrder
 pub mod ReadUses
 pub mod Readable

@@ -1,4 +1,5 @@
-ghost use Rattle.std.specs.Prelude.{◌≡◌, ◌↔◌, List, [], ◌∷◌, map};
+ghost use Rattle.std.specs.Global.{Global};
+ghost use Rattle.std.specs.Prelude.{◌≡◌, ◌↔◌, ◌<◌, ◌≤◌, ◌^◌, List, [], ◌∷◌, length, map, sum};
 ghost use Rattle.mlir_ir.specs.Tokens.{AreTokens};
 ghost use Rattle.mlir_ir.specs.Terminals.{terminal_of};
 ghost use Rattle.mlir_ir.specs.Trees.{IsTreeOf};
@@ -19,6 +20,9 @@ ghost use Rattle.mlir_ir.specs.Reads.{Reads, phrase_in, plain_func};
 ghost use Rattle.mlir_ir.specs.Resolved.{funcs_of};
 ghost use Rattle.mlir_ir.specs.ScopeFaults.{text_breaks};
 ghost use Rattle.round_trip.specs.Flat.{flat};
+ghost use Rattle.round_trip.specs.KeepsLimits.{KeepsLimits, func_ops};
+ghost use Rattle.round_trip.specs.Sound.{Each};
+ghost use Rattle.mlir_ir.specs.Limits.{func_limit, item_limit, module_op_limit};
 ghost use Rattle.round_trip.specs.Readable.{ReadableModule};
 ghost use Rattle.round_trip.specs.Widths.{IsPrintable};
 
@@ -52,6 +56,14 @@ pub fn canonical_syntax()
         → IsRefused (module_text fs) e → e ≡ NoMemory }
 {}
 
+/// Where the canonical text has less than 2^32 bytes, which a syntax counts in 32 bits, it has a
+/// syntax: memory is all that parsing it needs.
+pub fn canonical_syntax_exists()
+    ensures { (alloc : Global) (fs : List Func) → IsPrintable fs
+        → length (module_text fs) < 2 ^ 32
+        → (s : Syntax) × IsSyntaxOf (module_text fs) s }
+{}
+
 /// The canonical text of a module of well-formed functions, whose types have 1 to 64 bits, stands
 /// for the flat module: each use gets the label that its value has there.
 pub fn canonical_functions()
@@ -59,17 +71,32 @@ pub fn canonical_functions()
         → funcs_of (phrase_in s) ≡ flat m.funcs }
 {}
 
-/// A canonical text reads as no module but those whose functions are the flat module's; and it
-/// reads as these where its syntax breaks no rule on limits, names, types and lengths.
+/// A canonical text reads as no module but those whose functions are the flat module's.
 pub fn canonical_readings()
-    ensures only { (m read : Module) → IsPrintable m.funcs → Reads (module_text m.funcs) read
+    ensures { (m read : Module) → IsPrintable m.funcs → Reads (module_text m.funcs) read
         → map plain_func read.funcs ≡ flat m.funcs }
-    ensures unbroken { (m read : Module) (s : Syntax) → IsPrintable m.funcs
-        → IsSyntaxOf (module_text m.funcs) s → text_breaks s.tokens (phrase_in s) ≡ []
+{}
+
+/// The syntax of a canonical text breaks no rule exactly where the flat module keeps its limits;
+/// then the text reads as the modules whose functions are the flat module's. A module keeps them
+/// where it does so itself and no function has more operations than items are allowed.
+pub fn canonical_texts_read()
+    ensures limits { (m : Module) (s : Syntax) → IsPrintable m.funcs
+        → IsSyntaxOf (module_text m.funcs) s
+        → text_breaks s.tokens (phrase_in s) ≡ [] ↔ KeepsLimits (flat m.funcs) }
+    ensures reads { (m read : Module) (s : Syntax) → IsPrintable m.funcs
+        → KeepsLimits (flat m.funcs) → IsSyntaxOf (module_text m.funcs) s
         → map plain_func read.funcs ≡ flat m.funcs → Reads (module_text m.funcs) read }
+    ensures kept { (m read : Module) → IsPrintable m.funcs → Reads (module_text m.funcs) read
+        → KeepsLimits (flat m.funcs) }
+    ensures within { (m : Module) → length m.funcs ≤ func_limit
+        → sum (map (λ (f : Func). func_ops (plain_func f)) m.funcs) ≤ module_op_limit
+        → Each (λ (f : Func). func_ops (plain_func f) ≤ item_limit) m.funcs
+        → KeepsLimits (flat m.funcs) }
 {}
 
 /// Some module is as the laws ask.
 pub fn some_module()
-    ensures { (f : Func) × IsPrintable (f ∷ []) × ReadableModule (f ∷ []) }
+    ensures { (f : Func) × IsPrintable (f ∷ []) × ReadableModule (f ∷ [])
+        × KeepsLimits (flat (f ∷ [])) }
 {}

@@ -4,6 +4,6 @@
 mod laws;
 
 pub use laws::{
-    canonical_functions, canonical_phrase, canonical_readings, canonical_syntax, canonical_tokens,
-    canonical_tree, some_module,
+    canonical_functions, canonical_phrase, canonical_readings, canonical_syntax,
+    canonical_texts_read, canonical_tokens, canonical_tree, some_module,
 };
