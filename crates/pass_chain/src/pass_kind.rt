@@ -1,3 +1,8 @@
+ghost use Rattle.std.specs.Prelude.{◌≡◌};
+ghost use Rattle.pass_chain.specs.declared.pass_kind.Unmade.TheVariants.{NoMemory};
+
+use std::alloc::AllocError;
+
 /// What a pass does to a loop.
 #[derive(Clone, Copy, Debug, PartialEq, Eq)]
 pub enum PassKind {
@@ -30,4 +35,20 @@ pub enum PassRefusal {
     NothingToDo,
     /// The child passes a limit.
     TooLarge,
+}
+
+/// Why a pass makes no child of a function.
+#[derive(Clone, Copy, Debug, PartialEq, Eq)]
+pub enum Unmade {
+    /// Memory was refused.
+    NoMemory,
+    Refused(PassRefusal),
+}
+
+impl From<AllocError> for Unmade {
+    ghost from_gives = { λ _ e. e ≡ NoMemory };
+
+    fn from(_e: AllocError) -> Unmade {
+        Unmade::NoMemory
+    }
 }

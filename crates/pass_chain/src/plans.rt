@@ -20,6 +20,9 @@ use pass_unroll::Plan;
 /// The most iterations of a loop that is unrolled in full.
 pub const MAX_FULL_COUNT: u64 = 31;
 
+/// The least iterations that stand in one of an unrolled loop.
+pub const MIN_FACTOR: u8 = 2;
+
 /// The most iterations that stand in one of an unrolled loop.
 pub const MAX_FACTOR: u8 = 32;
 
