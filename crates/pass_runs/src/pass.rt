@@ -30,6 +30,7 @@ fn func_named<'a>(funcs: &'a [Func], name: &str) -> Option<&'a Func>
 }
 
 /// The label of the loop with that number.
+#[tactic(auto, using(mlir_ir::proofs::LabelsFit::labels_fit))]
 fn loop_numbered(alloc: Global, f: &Func, number: usize) -> Result<Option<Label>, AllocError>
     requires { IsWellFormed f.now }
 {
