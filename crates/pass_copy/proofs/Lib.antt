@@ -28,7 +28,6 @@ pub mod FreshNames
 pub mod OldNames
 pub mod TypedChildren
 pub mod ChildLabels
-pub mod OneLoop
 pub mod ItemCounts
 pub mod CopiedOps
 pub mod ChildOps

@@ -26,7 +26,6 @@ pub mod PeelWorks
 pub mod FullWorks
 pub mod MoreStages
 pub mod UnrollWorks
-pub mod FoundLoops
 pub mod ChildMeanings
 pub mod CopiesBehind
 pub mod FullCopies

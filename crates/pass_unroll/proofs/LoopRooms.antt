@@ -19,7 +19,8 @@ use Rattle.pass_copy.specs.Replaced.{Operation, op_labels, StandsAt, replaced_fu
 use Rattle.pass_copy.specs.declared.building.Out.{Out}
 use Rattle.pass_copy.specs.declared.renaming.Span.{Span}
 use Rattle.pass_copy.proofs.ItemCounts.{child_count, few_fit, fit_few}
-use Rattle.pass_copy.proofs.OneLoop.{one_loop}
+use Rattle.mlir_ir.proofs.LabelsFit.{labels_fit}
+use Rattle.pass_copy.proofs.AloneLoops.{alone_at_label}
 use Rattle.pass_unroll.specs.Copies.{ForLoop, operation_of}
 
 -- the loop of an operation, and another one where it is none
@@ -39,7 +40,7 @@ loop_in packs results (For lower upper step iv args inits body ends) other = rec
 loop_in packs results _ other = other
 
 pub same_loop : (f : Func) → IsWellFormed f → (t : ℕ) (a b : ForLoop) → StandsAt f t (operation_of a) → StandsAt f t (operation_of b) → a ≡ b
-same_loop f w t a b s r = ap (λ (x : Operation). loop_in x.packs x.results x.kind a) (one_loop t (operation_of a) (operation_of b) f w s r)
+same_loop f w t a b s r = ap (λ (x : Operation). loop_in x.packs x.results x.kind a) (alone_at_label f (labels_fit f w) t (operation_of a) (operation_of b) s r)
 
 module _ (f : Func) (well : IsWellFormed f) (t : ℕ) (o : ForLoop) (stands : StandsAt f t (operation_of o)) (start n : ℕ) (room : Bool) (at : start ≡ t)
     (fits : room ≡ nat_le (item_labels f start + n) (label_limit + op_labels (operation_of o)))
