@@ -8,4 +8,5 @@ mod operands;
 mod queries;
 
 pub use laws::{affected_items_depend, used_items_are_depended_on, uses_go_back};
+pub use operands::item_operands;
 pub use queries::{affected, uses};

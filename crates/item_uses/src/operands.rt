@@ -89,7 +89,7 @@ fn push_ops(out: &mut Vec<Label>, ops: &[Op]) -> Result<(), AllocError>
 }
 
 /// The operands of an item in the order of the text, in its regions too, with those of terminators.
-pub(crate) fn operands(alloc: Global, item: &Item) -> Result<List<Label>, AllocError>
+pub fn item_operands(alloc: Global, item: &Item) -> Result<List<Label>, AllocError>
     ensures { IfOk result (λ labels. labels ≡ ops_uses (view_ops item.now.ops)) }
 {
     let mut out = Vec::new(alloc);

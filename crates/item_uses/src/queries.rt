@@ -4,7 +4,7 @@ ghost use Rattle.item_uses.specs.Uses as spec;
 ghost use Rattle.item_uses.specs.Marks.{settled, with_marks};
 
 use crate::marks::{is_any_marked, mark_all};
-use crate::operands::operands;
+use crate::operands::item_operands;
 use arith_word::List;
 use mlir_ir::{Func, Item};
 use std::alloc::{AllocError, Global};
@@ -13,7 +13,7 @@ use std::alloc::{AllocError, Global};
 fn uses_marked(alloc: Global, marks: &[bool], item: &Item) -> Result<bool, AllocError>
     ensures { IfOk result (λ is. is ≡ spec.uses_marked marks.now (view_ops item.now.ops)) }
 {
-    let labels = operands(alloc, item)?;
+    let labels = item_operands(alloc, item)?;
     Ok(is_any_marked(marks, labels.as_slice()))
 }
 
@@ -40,7 +40,7 @@ fn mark_used(alloc: Global, marks: &mut [bool], item: &Item) -> Result<(), Alloc
     ensures { OnOk result
         (marks.new ≡ with_marks marks.old (spec.ops_uses (view_ops item.now.ops))) }
 {
-    let labels = operands(alloc, item)?;
+    let labels = item_operands(alloc, item)?;
     mark_all(marks, labels.as_slice());
     Ok(())
 }

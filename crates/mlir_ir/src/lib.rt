@@ -52,3 +52,4 @@ pub use type_search::type_of;
 pub use types::{
     Arg, Body, Flags, ForParts, Func, IrType, Item, Kind, Op, Pack, Region, WhileParts,
 };
+pub use uses::same_type;

@@ -15,7 +15,8 @@ fn is_int(width: Width, ty: IrType) -> bool
     }
 }
 
-pub(crate) fn same_type(a: IrType, b: IrType) -> bool
+/// Whether the types are equal.
+pub fn same_type(a: IrType, b: IrType) -> bool
     ensures { result ≡ spec.same_type a b }
 {
     match a {
