@@ -14,7 +14,7 @@ use Rattle.pass_copy.proofs.UntouchedParts.{loop_labels, stands, stands_inside, 
 use Rattle.pass_copy.proofs.ItemPlaces.{ItemsFit, items_fit, next_item, stands_behind}
 
 -- what stands inside a loop has another label
-not_both : (t : ℕ) (q : Operation) (kind : OpKind) (at : ℕ) → at ≡ t → is_loop kind ≡ true → StandsInside t q at kind → ⊥
+pub not_both : (t : ℕ) (q : Operation) (kind : OpKind) (at : ℕ) → at ≡ t → is_loop kind ≡ true → StandsInside t q at kind → ⊥
 not_both t q kind at e l s =
     let other : (is_loop kind && (at == t)) ≡ false = not_around t q kind at s in
     let same : true ≡ false = rw (l, eq-eqb at t e) at other in

@@ -84,12 +84,12 @@ after_all (Stopped stop trace) P h = tt
 
 -- claims by the reports of runs
 
-all_hold_split : (H : Claim) (xs ys : List Report) → AllHoldAt H (xs ++ ys) → AllHoldAt H xs × AllHoldAt H ys
+pub all_hold_split : (H : Claim) (xs ys : List Report) → AllHoldAt H (xs ++ ys) → AllHoldAt H xs × AllHoldAt H ys
 all_hold_split H [] ys h = (tt, h)
 all_hold_split H (r ∷ xs) ys h = let t = all_hold_split H xs ys h.1 in ((h.0, t.0), t.1)
 
 -- it holds at all that a segment reports
-abbrev Told : Claim → Segment → Type 0
+abbrev pub Told : Claim → Segment → Type 0
 Told H r = AllHoldAt H r.reports
 
 reports_after : (H : Claim) (e : End) (go : List Binding → State → Segment) (P : Says) → AllHoldAt H (reports_then e (λ env s. (go env s).reports))
@@ -97,13 +97,13 @@ reports_after : (H : Claim) (e : End) (go : List Binding → State → Segment) 
 reports_after H (Done env s) go P h k = k env s h
 reports_after H (Stopped stop trace) go P h k = tt
 
-then_told : (H : Claim) (r : Segment) (e : End) (go : List Binding → State → Segment) (P : Says) → r.end ≡ e → Told H (run_then r go)
+pub then_told : (H : Claim) (r : Segment) (e : End) (go : List Binding → State → Segment) (P : Says) → r.end ≡ e → Told H (run_then r go)
     → ((env : List Binding) (s : State) → Told H (go env s) → P env s) → Told H r × after e P
 then_told H r e go P q h k =
     let t = all_hold_split H r.reports (reports_then r.end (λ env s. (go env s).reports)) h in
     (t.0, subst (λ x. after x P) q (reports_after H r.end go P t.1 k))
 
-if_told : (H : Claim) (c : Bool) (x y : Segment) → c ≡ true → Told H (if c then x else y) → Told H x
+pub if_told : (H : Claim) (c : Bool) (x y : Segment) → c ≡ true → Told H (if c then x else y) → Told H x
 if_told H true x y e h = h
 if_told H false x y e h = cc
 
@@ -111,7 +111,7 @@ else_told : (H : Claim) (c : Bool) (x y : Segment) → c ≡ false → Told H (i
 else_told H true x y e h = cc
 else_told H false x y e h = h
 
-tick_told : (H : Claim) (s : State) (go : State → Segment) → (s.budget ≡ 0 → ⊥) → Told H (tick s go) → Told H (go (spent s))
+pub tick_told : (H : Claim) (s : State) (go : State → Segment) → (s.budget ≡ 0 → ⊥) → Told H (tick s go) → Told H (go (spent s))
 tick_told H s go ne h = else_told H (s.budget == 0) (stops Cut s) (go (spent s)) (ne_eqb s.budget 0 ne) h
 
 -- a region, where what it reports tells what is said

@@ -107,7 +107,7 @@ mutual
   ops_kept k (next packs results kind rest) =
       λ j. next (packs_kept (k + inner_names kind) packs j) results (kind_kept k kind j) (ops_kept (k + (inner_names kind + length packs)) rest j)
 
-  kind_kept : (k : ℕ) (kind : OpKind) → rename_kind (renamed []) keep k kind ≡ kind
+  pub kind_kept : (k : ℕ) (kind : OpKind) → rename_kind (renamed []) keep k kind ≡ kind
   kind_kept k (Simple does) = ap Simple (simple_kept does)
   kind_kept k (If c first firsts has_else other others) =
       λ j. If c (ops_kept k first j) (labels_kept firsts j) has_else (ops_kept (k + names_of first) other j) (labels_kept others j)

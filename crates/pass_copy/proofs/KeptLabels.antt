@@ -25,7 +25,7 @@ pub binds_kept : (x : ℕ) (vs : List Number) (env : List Binding) → Kept x en
 binds_kept x [] env y h = refl
 binds_kept x (v ∷ vs) env y h = binds_kept (x + 1) vs (bound x v ∷ env) y (omega arith) ∙ look_other x v y env (λ e. omega arith)
 
-after_then : (e : End) (go : Ending) (P Q : Says) → after e P → ((env : List Binding) (s : State) → P env s → after (go env s) Q) → after (end_then e go) Q
+pub after_then : (e : End) (go : Ending) (P Q : Says) → after e P → ((env : List Binding) (s : State) → P env s → after (go env s) Q) → after (end_then e go) Q
 after_then (Done env s) go P Q h k = k env s h
 after_then (Stopped stop trace) go P Q h k = tt
 

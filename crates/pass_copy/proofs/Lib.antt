@@ -20,6 +20,7 @@ pub mod NamedRenamed
 pub mod UntouchedParts
 pub mod ItemPlaces
 pub mod LoopScopes
+pub mod OneScope
 pub mod AloneLoops
 pub mod TypedReplaced
 pub mod NamedReplaced

@@ -11,3 +11,4 @@ pub mod Copied
 pub mod Places
 pub mod Built
 pub mod ScopeSearch
+pub mod InScope

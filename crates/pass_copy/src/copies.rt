@@ -106,7 +106,7 @@ pub fn copy_ops(
 
 /// A copy of one operation.
 #[cycle(copy)]
-fn copy_op(alloc: Global, op: &Op, map: &Renaming, names: &mut Names) -> Result<Op, AllocError>
+pub fn copy_op(alloc: Global, op: &Op, map: &Renaming, names: &mut Names) -> Result<Op, AllocError>
     ensures packs { IfOk result (λ made. made.packs
         ≡ rename_packs (naming names.old) (names.old.given + inner_names
         (view_kind op.now.kind)) op.now.packs) }

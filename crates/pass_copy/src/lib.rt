@@ -18,7 +18,7 @@ mod scope_search;
 mod taken;
 
 pub use building::Out;
-pub use copies::{copy_arg, copy_args, copy_ops, copy_packs, copy_region, copy_types};
+pub use copies::{copy_arg, copy_args, copy_op, copy_ops, copy_packs, copy_region, copy_types};
 pub use laws::{fresh_names_are_free, functions_mean_themselves};
 pub use moving::{labels_from, moved, moved_map, push_links};
 pub use names::Names;
