@@ -42,11 +42,11 @@ loop_in packs results _ other = other
 pub same_loop : (f : Func) → IsWellFormed f → (t : ℕ) (a b : ForLoop) → StandsAt f t (operation_of a) → StandsAt f t (operation_of b) → a ≡ b
 same_loop f w t a b s r = ap (λ (x : Operation). loop_in x.packs x.results x.kind a) (alone_at_label f (labels_fit f w) t (operation_of a) (operation_of b) s r)
 
-module _ (f : Func) (well : IsWellFormed f) (t : ℕ) (o : ForLoop) (stands : StandsAt f t (operation_of o)) (start n : ℕ) (room : Bool) (at : start ≡ t)
-    (fits : room ≡ nat_le (item_labels f start + n) (label_limit + op_labels (operation_of o)))
+module _ (f : Func) (well : IsWellFormed f) (t : ℕ) (o : Operation) (stands : StandsAt f t o) (start n : ℕ) (room : Bool) (at : start ≡ t)
+    (fits : room ≡ nat_le (item_labels f start + n) (label_limit + op_labels o))
     (g : ℕ → ℕ) (seg : OpList) (child : Func) (count : n ≡ labels_of seg) (is : plain_func child ≡ replaced_func g t seg f) where
-  whole : item_labels child t + op_labels (operation_of o) ≡ item_labels f t + labels_of seg
-  whole = child_count f well g t seg (operation_of o) child stands is
+  whole : item_labels child t + op_labels o ≡ item_labels f t + labels_of seg
+  whole = child_count f well g t seg o child stands is
 
   there : item_labels f start ≡ item_labels f t
   there = ap (item_labels f) at
@@ -55,14 +55,14 @@ module _ (f : Func) (well : IsWellFormed f) (t : ℕ) (o : ForLoop) (stands : St
   room_fits r =
       let e = whole in
       let h = there in
-      let l = leb-true (item_labels f start + n) (label_limit + op_labels (operation_of o)) (sym fits ∙ r) in
+      let l = leb-true (item_labels f start + n) (label_limit + op_labels o) (sym fits ∙ r) in
       few_fit child t (omega (arith, e, h, l, count))
 
   pub no_room : room ≡ false → DoesItemFit child t → ⊥
   no_room r d =
       let e = whole in
       let h = there in
-      let l = leb-false (item_labels f start + n) (label_limit + op_labels (operation_of o)) (sym fits ∙ r) in
+      let l = leb-false (item_labels f start + n) (label_limit + op_labels o) (sym fits ∙ r) in
       let few = fit_few child t d in
       omega (arith, e, h, l, count, few)
 

@@ -43,7 +43,7 @@ pub have_new : (T : Types) (at : ℕ) (tys : List IrType) → Below at T → Hav
 have_new T at tys b = have_from_place (with_types T at tys) at tys (λ l le. ap (λ o. option_or o (typed_from at tys l)) (b l le))
 
 -- a sum of two values of one type
-sum_op : (T : Types) (name : List ℕ) (ty : IrType) (a b : Label) → T a.0 ≡ Some ty → T b.0 ≡ Some ty
+pub sum_op : (T : Types) (name : List ℕ) (ty : IrType) (a b : Label) → T a.0 ≡ Some ty → T b.0 ≡ Some ty
     → TypedOp T (record { name = name; count = 1 } ∷ []) (ty ∷ []) (Simple (Bin Addi (record { nsw = false; nuw = false }) a b))
 sum_op T name ty a b ea eb = record {
   in_scope = and_from _ _ (ap is_some ea) (and_from _ _ (ap is_some eb) refl);

@@ -27,7 +27,7 @@ use pass_copy::{Names, Out, found_for, item_labels, replace};
 use std::alloc::{AllocError, Global};
 
 /// The loop with that label.
-fn found_source(f: &Func, target: Label) -> Result<Source<'_>, AllocError>
+pub fn found_source(f: &Func, target: Label) -> Result<Source<'_>, AllocError>
     requires stands { (o : ForLoop) × StandsAt f.now target.0 (operation_of o) }
     ensures stands { IfOk result
         (λ source. StandsAt f.now target.0 (operation_of (loop_of source))) }
@@ -55,7 +55,7 @@ fn has_room(f: &Func, source: &Source, labels: u64) -> Result<bool, AllocError>
 }
 
 /// Nothing is built yet: the first operation gets that label, and the fresh names of the function.
-fn begun<'f>(alloc: Global, f: &'f Func, target: Label) -> Result<Out<'f>, AllocError>
+pub fn begun<'f>(alloc: Global, f: &'f Func, target: Label) -> Result<Out<'f>, AllocError>
     ensures ops { IfOk result (λ out. out.ops.items ≡ []) }
     ensures at { IfOk result (λ out. out.at ≡ target.0) }
     ensures anew { IfOk result (λ out. out.fresh.kept ≡ false) }

@@ -12,7 +12,7 @@ mod source;
 mod turns;
 mod unrolled;
 
-pub use calls::{peel, unroll, unroll_full};
+pub use calls::{begun, found_source, peel, unroll, unroll_full};
 pub use full::{full_map, push_full};
 pub use laws::{children_are_well_formed, children_mean_the_same};
 pub use peeled::push_peeled;

@@ -27,7 +27,7 @@ returns-then-not-branch-clause-child c child is =
     let child_is : plain_func child ≡ replaced_func (renamed (peel_spans fresh t plan o)) t (peeled fresh t plan o) f =
     is.is ∙ (λ i. replaced_func (renamed (peel_spans fresh t plan (e i))) t (peeled fresh t plan (e i)) f) in
     let count : c.peeled_labels.result ≡ labels_of (peeled fresh t plan o) = c.peeled_labels.ensures fresh plan ∙ (λ i. labels_of (peeled fresh (start i) plan o)) in
-    no_room f c.requires.formed t o found.stands source.start.0 c.peeled_labels.result c.in_ok-has_room.field-0 start c.in_ok-has_room.ensures
+    no_room f c.requires.formed t (operation_of o) found.stands source.start.0 c.peeled_labels.result c.in_ok-has_room.field-0 start c.in_ok-has_room.ensures
     (renamed (peel_spans fresh t plan o)) (peeled fresh t plan o) child count child_is c.if-not-branch.true
 
 pub returns-clause-child : goal.returns-clause-child
@@ -47,7 +47,7 @@ returns-clause-child c =
     c.in_ok-map.map.spans.items c.as_slice.result.now _ start begun.names begun.ops c.in_ok-map.ensures.map c.in_ok-map.ensures.built c.as_slice.ensures.value c.in_ok-child.ensures in
     let count : c.peeled_labels.result ≡ labels_of (peeled fresh t plan o) = c.peeled_labels.ensures fresh plan ∙ (λ i. labels_of (peeled fresh (start i) plan o)) in
     let fits =
-    room_fits f c.requires.formed t o found.stands source.start.0 c.peeled_labels.result c.in_ok-has_room.field-0 start c.in_ok-has_room.ensures
+    room_fits f c.requires.formed t (operation_of o) found.stands source.start.0 c.peeled_labels.result c.in_ok-has_room.field-0 start c.in_ok-has_room.ensures
     (renamed (peel_spans fresh t plan o)) (peeled fresh t plan o) child count child_is c.if-not-branch.false in
     (record { o = o; stands = found.stands; is = child_is }, fits)
 

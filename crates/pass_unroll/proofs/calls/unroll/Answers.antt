@@ -28,7 +28,7 @@ returns-then-not-branch-clause-child c child is =
     let child_is : plain_func child ≡ replaced_func (renamed (unroll_spans fresh t plan o factor)) t (unrolled fresh t plan o factor) f =
     is.is ∙ (λ i. replaced_func (renamed (unroll_spans fresh t plan (e i) factor)) t (unrolled fresh t plan (e i) factor) f) in
     let count : c.unrolled_labels.result ≡ labels_of (unrolled fresh t plan o factor) = c.unrolled_labels.ensures fresh ∙ (λ i. labels_of (unrolled fresh (start i) plan o factor)) in
-    no_room f c.requires.formed t o found.stands source.start.0 c.unrolled_labels.result c.in_ok-has_room.field-0 start c.in_ok-has_room.ensures
+    no_room f c.requires.formed t (operation_of o) found.stands source.start.0 c.unrolled_labels.result c.in_ok-has_room.field-0 start c.in_ok-has_room.ensures
     (renamed (unroll_spans fresh t plan o factor)) (unrolled fresh t plan o factor) child count child_is c.if-not-branch.true
 
 pub returns-clause-child : goal.returns-clause-child
@@ -49,7 +49,7 @@ returns-clause-child c =
     c.in_ok-map.map.spans.items c.as_slice.result.now _ start begun.names begun.ops c.in_ok-map.ensures.map c.in_ok-map.ensures.built c.as_slice.ensures.value c.in_ok-child.ensures in
     let count : c.unrolled_labels.result ≡ labels_of (unrolled fresh t plan o factor) = c.unrolled_labels.ensures fresh ∙ (λ i. labels_of (unrolled fresh (start i) plan o factor)) in
     let fits =
-    room_fits f c.requires.formed t o found.stands source.start.0 c.unrolled_labels.result c.in_ok-has_room.field-0 start c.in_ok-has_room.ensures
+    room_fits f c.requires.formed t (operation_of o) found.stands source.start.0 c.unrolled_labels.result c.in_ok-has_room.field-0 start c.in_ok-has_room.ensures
     (renamed (unroll_spans fresh t plan o factor)) (unrolled fresh t plan o factor) child count child_is c.if-not-branch.false in
     (record { o = o; stands = found.stands; is = child_is }, fits)
 

@@ -29,7 +29,7 @@ returns-then-not-branch-clause-child c child is =
     let child_is : plain_func child ≡ replaced_func (renamed (full_spans fresh t plan o)) t (unrolled_full fresh t plan o) f =
     is.is ∙ (λ i. replaced_func (renamed (full_spans fresh t plan (e i))) t (unrolled_full fresh t plan (e i)) f) in
     let count : c.full_labels.result ≡ labels_of (unrolled_full fresh t plan o) = c.full_labels.ensures fresh ∙ (λ i. labels_of (unrolled_full fresh (start i) plan o)) in
-    no_room f c.requires.formed t o found.stands source.start.0 c.full_labels.result c.in_ok-has_room.field-0 start c.in_ok-has_room.ensures
+    no_room f c.requires.formed t (operation_of o) found.stands source.start.0 c.full_labels.result c.in_ok-has_room.field-0 start c.in_ok-has_room.ensures
     (renamed (full_spans fresh t plan o)) (unrolled_full fresh t plan o) child count child_is c.if-not-branch.true
 
 pub returns-clause-child : goal.returns-clause-child
@@ -57,7 +57,7 @@ returns-clause-child c =
     c.in_ok-map.map.spans.items c.as_slice-2.result.now _ start begun.names begun.ops moves ops c.as_slice-2.ensures.value c.in_ok-child.ensures in
     let count : c.full_labels.result ≡ labels_of (unrolled_full fresh t plan o) = c.full_labels.ensures fresh ∙ (λ i. labels_of (unrolled_full fresh (start i) plan o)) in
     let fits =
-    room_fits f c.requires.formed t o found.stands source.start.0 c.full_labels.result c.in_ok-has_room.field-0 start c.in_ok-has_room.ensures
+    room_fits f c.requires.formed t (operation_of o) found.stands source.start.0 c.full_labels.result c.in_ok-has_room.field-0 start c.in_ok-has_room.ensures
     (renamed (full_spans fresh t plan o)) (unrolled_full fresh t plan o) child count child_is c.if-not-branch.false in
     (record { o = o; stands = found.stands; is = child_is }, fits)
 
