@@ -1,6 +1,7 @@
 mod WorkedExpansions
 pub mod PlacesFrom
-pub mod ExpandableTrees
+pub mod ScopedSymbols
+pub mod ScopedTrees
 pub mod GivenNames
 pub mod PushedProducts
 pub mod AddedTerms

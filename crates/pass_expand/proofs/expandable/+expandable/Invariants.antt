@@ -1,7 +1,5 @@
-use Rattle.std.proofs.Common.{drop, ◌↔◌}
-use Rattle.pass_expand.specs.Expandable.{AreExpandable}
-use Rattle.scev_tree.specs.Tree.{polynomials}
+use Rattle.pass_expand.proofs.ScopedTrees.{FromPlace}
 use Rattle.pass_expand.proofs.expandable.+expandable.Given as goal
 
-abbrev pub invariant-are_expandable-loop-t : goal.invariant-are_expandable-loop-t
-invariant-are_expandable-loop-t l = AreExpandable l.f l.ty (polynomials l.ts) ↔ AreExpandable l.f l.ty (polynomials (drop l.t-index l.ts))
+abbrev pub invariant-all_expand-loop-t : goal.invariant-all_expand-loop-t
+invariant-all_expand-loop-t l = FromPlace l.place.f.now l.place.target.0 l.place.ty l.ts l.t-index
