@@ -1,0 +1,26 @@
+ghost use Rattle.std.specs.Prelude.{ℕ, List, Option};
+ghost use Rattle.mlir_ir.specs.Check.{breaks, IsWellFormed};
+ghost use Rattle.mlir_ir.specs.Places.{DoLabelsFit};
+ghost use Rattle.mlir_ir.specs.WellFormed.{OnlySize};
+ghost use Rattle.mlir_ir.specs.declared.types.Func.{Func};
+ghost use Rattle.pass_copy.specs.ItemLabels.{DoesItemFit};
+ghost use Rattle.pass_copy.specs.Meaning.{HasSameMeaning};
+ghost use Rattle.pass_indvar.specs.Exits.{HasExitValues, DoExitsHold};
+ghost use Rattle.scev_tree.specs.Polynomial.{Polynomial};
+
+/// A function in which results of a loop get their values from expressions breaks no rule but
+/// limits, where the item of the loop keeps to its own labels. There is nothing to do: the contract
+/// is the law.
+pub fn exit_values_are_well_formed()
+    ensures { (f child : Func) (t : ℕ) (exprs : List (Option Polynomial)) → IsWellFormed f
+        → HasExitValues f t exprs child → DoesItemFit child t → OnlySize (breaks child) }
+{}
+
+/// Such a function means what it meant before, where the results have the numbers of the
+/// expressions in every run and each item keeps to its labels. There is nothing to do: the contract
+/// is the law.
+pub fn exit_values_mean_the_same()
+    ensures { (f child : Func) (t : ℕ) (exprs : List (Option Polynomial)) → IsWellFormed f
+        → HasExitValues f t exprs child → DoLabelsFit child → DoExitsHold f t exprs
+        → HasSameMeaning f child }
+{}
