@@ -101,7 +101,7 @@ module _ (t : ℕ) (o : ForLoop) where
 
 -- ---- numbers of expressions
 
-same_number : (n m : Number) → n.w ≡ m.w → n.v ≡ m.v → n ≡ m
+pub same_number : (n m : Number) → n.w ≡ m.w → n.v ≡ m.v → n ≡ m
 same_number n m e h =
     let first : n ≡ record { w = m.w; v = n.v } = ap (λ (w : ℕ). record { w = w; v = n.v }) e in
     first ∙ ap (λ (v : ℕ). record { w = m.w; v = v }) h

@@ -11,3 +11,10 @@ pub mod OneWord
 pub mod Sought
 pub mod SoughtItems
 pub mod FoundLoops
+pub mod GivenExits
+pub mod ForLoops
+pub mod GivenProducts
+pub mod GivenEntries
+pub mod KeptOps
+pub mod KeptItems
+pub mod WithinLimits
