@@ -21,6 +21,8 @@ pub enum Pass {
     Peel,
     Unroll(Factor),
     UnrollFull,
+    ExitValues,
+    Reduce,
 }
 
 /// What a line names: a pass, a function by its name, and a loop by its number in it.
@@ -51,6 +53,8 @@ fn read_pass(name: &str, param: Option<&str>) -> Option<Pass> {
         "peel" => Some(Pass::Peel),
         "unroll" => Some(Pass::Unroll(read_factor(param)?)),
         "unroll-full" => Some(Pass::UnrollFull),
+        "exit-values" => Some(Pass::ExitValues),
+        "reduce" => Some(Pass::Reduce),
         _ => None,
     }
 }

@@ -6,6 +6,8 @@
 //! == peel @f #0
 //! == unroll @f #1 4
 //! == unroll-full @f #0
+//! == exit-values @f #0
+//! == reduce @f #0
 //! ```
 //!
 //! Each pass is done to the module as it was read. The program prints the line and then the child of

@@ -5,7 +5,8 @@ ghost use Rattle.fresh_scev.specs.Answers.{facts_shown};
 ghost use Rattle.fresh_scev.specs.Bits.{HaveBits};
 ghost use Rattle.fresh_scev.specs.Facts.{IsFacts};
 ghost use Rattle.fresh_scev.specs.Table.{AreKnown};
-ghost use Rattle.mlir_ir.specs.Check.{IsWellFormed};
+ghost use Rattle.mlir_ir.specs.Check.{IsWellFormed, breaks};
+ghost use Rattle.mlir_ir.specs.WellFormed.{OnlySize};
 
 use crate::line::{Line, Pass};
 use anyhow::bail;
@@ -13,7 +14,9 @@ use arith_word::Label;
 use fresh_scev::{Facts, analyse};
 use mlir_ir::{Func, Module, loops};
 use mlir_print::print_beside;
-use pass_chain::{PassRefusal, Unmade, peeled, unrolled, unrolled_full};
+use pass_chain::{
+    PassRefusal, Unmade, exited, is_within_limits, peeled, reduced, unrolled, unrolled_full,
+};
 use std::alloc::{AllocError, Global};
 
 /// The function of that name.
@@ -44,11 +47,14 @@ fn child(alloc: Global, facts: &Facts, f: &Func, target: Label, pass: Pass) -> R
     requires bits { HaveBits f.now }
     requires facts { IsFacts f.now (facts_shown facts.now) }
     requires known { AreKnown (facts_shown facts.now) }
+    ensures { IfOk result (λ child. OnlySize (breaks child)) }
 {
     match pass {
         Pass::Peel => peeled(alloc, facts, f, target),
         Pass::Unroll(factor) => unrolled(alloc, facts, f, target, factor.times),
         Pass::UnrollFull => unrolled_full(alloc, facts, f, target),
+        Pass::ExitValues => exited(alloc, facts, f, target),
+        Pass::Reduce => reduced(alloc, facts, f, target),
     }
 }
 
@@ -66,8 +72,10 @@ fn refusal_text(refusal: PassRefusal) -> &'static str {
 }
 
 /// Prints a child, where it passes no limit.
-fn print_child(rt: &impl Print, alloc: Global, m: &Module, child: &Func) -> anyhow::Result<()> {
-    if child.check().is_err() {
+fn print_child(rt: &impl Print, alloc: Global, m: &Module, child: &Func) -> anyhow::Result<()>
+    requires { OnlySize (breaks child.now) }
+{
+    if !is_within_limits(child) {
         println!(rt; "refused: {}", refusal_text(PassRefusal::TooLarge))?;
         return Ok(());
     }
